@@ -9,6 +9,7 @@ use borrow.Author.Differences.{ints}
 use borrow.Author.Tests.{eqb-true}
 use Rattle.std.specs.declared.option.Option.the-variants.{Some, None}
 use Rattle.words.specs.declared.EffectWords.{EffectWords}
+use Rattle.words.proofs.Giving.{same-effect-words}
 use Rattle.counter.specs.Counting.{counter-of}
 use Rattle.counter.specs.Packing.{counter-words, counter-read}
 use Rattle.counter.specs.declared.Counter.{Counter}
@@ -36,9 +37,6 @@ counter-reads-back c =
     ∙ ap (λ n. counter-of (pos raised +ℤ negsuc 999999) (c .floor) n) (ceiling-part raised (c .floor) (c .ceiling) floor< ceiling<)
     ∙ ap (λ z. counter-of z (c .floor) (c .ceiling)) amount ∙ counter-back c
 
-same-words : (a b : EffectWords) → a .first ≡ b .first → a .second ≡ b .second → a ≡ b
-same-words a b p q = λ i. record { first = p i; second = q i }
-
 -- the raised amount of what was read is what the word has of it
 lifted : (n : ℕ) (z : ℤ) → z ≡ pos n +ℤ negsuc 999999 → natAbs (z +ℤ pos 1000000) ≡ n
 lifted n z is = omega (arith, ints)
@@ -50,5 +48,5 @@ counter-reads-only w c is = go (eqb (w .second) 0) refl is
     go true zero there =
         let from = counter-from (pos (w .first / 2 ^ 42) +ℤ negsuc 999999) (w .first / 2 ^ 21 % 2 ^ 21) (w .first % 2 ^ 21) c there in
         let high = lifted (w .first / 2 ^ 42) (c .amount) (from .0) in
-        same-words (counter-words c) w (omega (arith, high, from .1, from .2)) (sym (eqb-true (w .second) 0 zero))
+        same-effect-words (counter-words c) w (omega (arith, high, from .1, from .2)) (sym (eqb-true (w .second) 0 zero))
     go false zero there = absurd (let z : _≡_ {A = ℕ} 0 1 = cc in omega arith)

@@ -1,4 +1,4 @@
--- What a test says of a value that exists only where it passes.
+-- What a test says of a value that exists only where it passes, and when words are the same.
 use mathlib.Core.Bool.{Bool, true, false}
 use mathlib.Core.Path.{_≡_, refl}
 use native.Mathlib.Omega.{arith}
@@ -7,6 +7,7 @@ use lib.Dec.{T}
 use Rattle.std.specs.declared.option.Option.{Option}
 use Rattle.std.specs.declared.option.Option.the-variants.{Some, None}
 use Rattle.words.specs.Given.{given}
+use Rattle.words.specs.declared.EffectWords.{EffectWords}
 
 module _ {A : Type 0} where
   pub given-passed : (test : Bool) (value : T test → Option A) (passed : T test) → given test value ≡ value passed
@@ -29,3 +30,6 @@ none-where (Some a) never = absurd (never a refl)
 
 pub some-same : {A : Type 0} {a b : A} → Some a ≡ Some b → a ≡ b
 some-same is = cc
+
+pub same-effect-words : (a b : EffectWords) → a .first ≡ b .first → a .second ≡ b .second → a ≡ b
+same-effect-words a b p q = λ i. record { first = p i; second = q i }
