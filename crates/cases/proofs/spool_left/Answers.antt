@@ -36,10 +36,10 @@ returns-in-Break-take c = absurd (never (c .in-Break-take .ensures tt))
 pub returns : need.returns
 returns c = record {
   left = ap Some (
-    c .carry .ensures
-    ∙ ap (λ s. level-after (c .in-Continue-take .take) (level-after s (c .start-state .result))) (some-same (c .in-Continue-set .ensures tt))
-    ∙ ap (λ t. level-after t (level-after (set-to 100000 tt tt) (c .start-state .result))) (some-same (c .in-Continue-take .ensures tt))
-    ∙ ap (λ l. level-after (take 30000 tt tt) (level-after (set-to 100000 tt tt) l)) (c .start-state .ensures) ∙ same-level _ _ refl
-  );
+      c .carry .ensures
+      ∙ ap (λ s. level-after (c .in-Continue-take .take) (level-after s (c .start-state .result))) (some-same (c .in-Continue-set .ensures tt))
+      ∙ ap (λ t. level-after t (level-after (set-to 100000 tt tt) (c .start-state .result))) (some-same (c .in-Continue-take .ensures tt))
+      ∙ ap (λ l. level-after (take 30000 tt tt) (level-after (set-to 100000 tt tt) l)) (c .start-state .ensures) ∙ same-level _ _ refl
+      );
   cases = cases;
 }
