@@ -17,6 +17,10 @@ use Rattle.counter.specs.declared.Counter.{Counter}
 abbrev pub level-of : ℕ → Option Level
 level-of n = given (leb n 1000000) (λ within. Some (record { hundredths = n; within = lit≤ within }))
 
+-- what every counter keeps: an amount from -1,000,000 to 1,000,000, and 0 ≤ floor ≤ ceiling ≤ 1,000,000
+abbrev pub InBounds : ℤ → ℕ → ℕ → Type 0
+InBounds amount floor ceiling = (negsuc 999999 ≤ℤ amount) × (amount ≤ℤ pos 1000000) × (floor ≤ ceiling) × (ceiling ≤ 1000000)
+
 -- the counter of an amount from -1,000,000 to 1,000,000, a floor and a ceiling with 0 ≤ floor ≤ ceiling ≤ 1,000,000, or none
 abbrev pub counter-of : ℤ → ℕ → ℕ → Option Counter
 counter-of amount floor ceiling =

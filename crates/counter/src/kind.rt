@@ -1,6 +1,13 @@
 // What a counter does to a level, and the words that it is kept as.
 ghost use mathlib.Core.Path.{_≡_};
-ghost use Rattle.counter.specs.Counting.{level-of, counter-of, no-level, level-after, added, no-count, joined};
+ghost use Prim.Native.Nat.{_≤_};
+ghost use lib.IntN.{pos, negsuc};
+ghost use lib.Signed.{_≤ℤ_};
+ghost use Rattle.std.specs.Orderings.{When};
+ghost use Rattle.std.specs.declared.option.Option.the-variants.{Some, None};
+ghost use Rattle.counter.specs.Counting.{level-of, InBounds, counter-of, limited, no-level, level-after, added, no-count, joined};
+ghost use Rattle.counter.specs.declared.Level.{Level};
+ghost use Rattle.counter.specs.declared.Counter.{Counter};
 ghost use Rattle.counter.specs.Packing.{counter-words, counter-read, level-words};
 use super::Counter;
 use super::Level;
@@ -11,68 +18,103 @@ use words::StateWords;
 impl Level {
     pub const MOST: u32 = 1_000_000;
 
+    // The level of so many hundredths, of which there is one.
+    fn exactly(hundredths: u32) -> Level
+        requires { ⌜ hundredths ≤ 1000000 ⌝ }
+        ensures same { λ r. ⌜ ((l : Level) → hundredths ≡ l .hundredths → r ≡ l) ⌝ }
+        ensures made { λ r. ⌜ Some r ≡ level-of hundredths ⌝ }
+    {
+        Level { hundredths }
+    }
+
     pub fn new(hundredths: u32) -> Option<Level>
         ensures { λ r. ⌜ r ≡ level-of hundredths ⌝ }
     {
         if hundredths > Level::MOST {
             return None;
         }
-        Some(Level { hundredths })
-    }
-
-    pub fn hundredths(self) -> u32
-        ensures { λ r. ⌜ r ≡ self .hundredths ⌝ }
-    {
-        self.hundredths
+        Some(Level::exactly(hundredths))
     }
 }
 
 impl Counter {
     pub const MOST: i32 = 1_000_000;
 
-    pub fn new(amount: i32, floor: u32, ceiling: u32) -> Option<Counter>
-        ensures { λ r. ⌜ r ≡ counter-of amount floor ceiling ⌝ }
+    // Whether there is a counter of these three numbers.
+    fn exists(amount: i32, floor: u32, ceiling: u32) -> bool
+        ensures { λ r. ⌜ When r (InBounds amount floor ceiling) (counter-of amount floor ceiling ≡ None) ⌝ }
     {
         if amount < -Counter::MOST
             || amount > Counter::MOST
             || floor > ceiling
             || ceiling > Level::MOST
         {
-            return None;
+            return false;
         }
-        Some(Counter {
+        true
+    }
+
+    // The counter of three numbers, of which there is one.
+    fn exactly(amount: i32, floor: u32, ceiling: u32) -> Counter
+        requires { ⌜ InBounds amount floor ceiling ⌝ }
+        ensures same { λ r. ⌜ ((c : Counter) → amount ≡ c .amount → floor ≡ c .floor → ceiling ≡ c .ceiling → r ≡ c) ⌝ }
+        ensures made { λ r. ⌜ Some r ≡ counter-of amount floor ceiling ⌝ }
+    {
+        Counter {
             amount,
             floor,
             ceiling,
-        })
+        }
     }
 
-    pub fn amount(self) -> i32
-        ensures { λ r. ⌜ r ≡ self .amount ⌝ }
+    pub fn new(amount: i32, floor: u32, ceiling: u32) -> Option<Counter>
+        ensures { λ r. ⌜ r ≡ counter-of amount floor ceiling ⌝ }
     {
-        self.amount
+        if Counter::exists(amount, floor, ceiling) {
+            Some(Counter::exactly(amount, floor, ceiling))
+        } else {
+            None
+        }
     }
 
-    pub fn floor(self) -> u32
-        ensures { λ r. ⌜ r ≡ self .floor ⌝ }
+    // The counter of two amounts' sum, limited to what an amount may be, and of a floor and a ceiling.
+    fn of_sum(first: i32, second: i32, floor: u32, ceiling: u32) -> Counter
+        requires small { ⌜ (negsuc 999999 ≤ℤ first) × (first ≤ℤ pos 1000000) × (negsuc 999999 ≤ℤ second) × (second ≤ℤ pos 1000000) ⌝ }
+        requires limits { ⌜ (floor ≤ ceiling) × (ceiling ≤ 1000000) ⌝ }
+        ensures { λ r. ⌜ ((c : Counter) → added first second ≡ c .amount → floor ≡ c .floor → ceiling ≡ c .ceiling → r ≡ c) ⌝ }
     {
-        self.floor
+        let amount = (first + second).min(Counter::MOST).max(-Counter::MOST);
+        Counter::exactly(amount, floor, ceiling)
     }
 
-    pub fn ceiling(self) -> u32
-        ensures { λ r. ⌜ r ≡ self .ceiling ⌝ }
+    // What this counter makes of a level's hundredths.
+    fn limit(self, hundredths: u32) -> u32
+        requires { ⌜ hundredths ≤ 1000000 ⌝ }
+        ensures value { λ r. ⌜ r ≡ limited (self .amount) (self .floor) (self .ceiling) hundredths ⌝ }
+        ensures within { λ r. ⌜ r ≤ 1000000 ⌝ }
     {
-        self.ceiling
+        add_and_limit(hundredths, self.amount, self.floor, self.ceiling)
     }
 
-    // The sum of the amounts, limited to what an amount may be.
-    fn total_amount(self, second: Counter) -> i32
-        ensures { λ r. ⌜ r ≡ added (self .amount) (second .amount) ⌝ }
+    // The limits of a counter that this one follows: they are levels too, and this one acts on them.
+    fn limits_after(self, first: Counter) -> (u32, u32)
+        ensures floor { λ r. ⌜ r .0 ≡ limited (self .amount) (self .floor) (self .ceiling) (first .floor) ⌝ }
+        ensures ceiling { λ r. ⌜ r .1 ≡ limited (self .amount) (self .floor) (self .ceiling) (first .ceiling) ⌝ }
+        ensures ordered { λ r. ⌜ (r .0 ≤ r .1) × (r .1 ≤ 1000000) ⌝ }
     {
-        (self.amount + second.amount)
-            .min(Counter::MOST)
-            .max(-Counter::MOST)
+        (self.limit(first.floor), self.limit(first.ceiling))
     }
+}
+
+// Adds the amount, then raises to the floor, then lowers to the ceiling.
+fn add_and_limit(hundredths: u32, amount: i32, floor: u32, ceiling: u32) -> u32
+    requires { ⌜ (hundredths ≤ 1000000) × InBounds amount floor ceiling ⌝ }
+    ensures value { λ r. ⌜ r ≡ limited amount floor ceiling hundredths ⌝ }
+    ensures within { λ r. ⌜ r ≤ 1000000 ⌝ }
+{
+    let moved = hundredths as i32 + amount;
+    let raised = moved.max(floor as i32);
+    raised.min(ceiling as i32) as u32
 }
 
 pub impl Effect for Counter as CounterEffect {
@@ -93,39 +135,20 @@ pub impl Effect for Counter as CounterEffect {
     ghost written = { level-words };
 
     fn start_state() -> Level {
-        Level { hundredths: 0 }
+        Level::exactly(0)
     }
 
     fn no_change() -> Counter {
-        Counter {
-            amount: 0,
-            floor: 0,
-            ceiling: Level::MOST,
-        }
+        Counter::exactly(0, 0, Level::MOST)
     }
 
     fn act(self, level: Level) -> Level {
-        let moved = level.hundredths as i32 + self.amount;
-        let limited = moved.max(self.floor as i32).min(self.ceiling as i32);
-        Level {
-            hundredths: limited as u32,
-        }
+        Level::exactly(self.limit(level.hundredths))
     }
 
-    // The limits of the first are levels too, and the second acts on them.
     fn compose(self, second: Counter) -> Counter {
-        let amount = self.total_amount(second);
-        let floor = second.act(Level {
-            hundredths: self.floor,
-        });
-        let ceiling = second.act(Level {
-            hundredths: self.ceiling,
-        });
-        Counter {
-            amount,
-            floor: floor.hundredths,
-            ceiling: ceiling.hundredths,
-        }
+        let (floor, ceiling) = second.limits_after(self);
+        Counter::of_sum(self.amount, second.amount, floor, ceiling)
     }
 
     fn to_words(self) -> EffectWords {

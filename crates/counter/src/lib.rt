@@ -4,6 +4,7 @@ ghost use lib.IntN.{pos, negsuc};
 ghost use lib.Signed.{_≤ℤ_};
 
 mod kind;
+mod parts;
 
 pub use kind::CounterEffect;
 
