@@ -48,9 +48,13 @@ level-after c l = record {
   within = limited-≤ (c .amount) (c .floor) (c .ceiling) (l .hundredths) (c .topped);
 }
 
--- the sum of two amounts, limited to -1,000,000 and 1,000,000
+-- a sum limited to -1,000,000 and 1,000,000
+abbrev pub limited-amount : ℤ → ℤ
+limited-amount sum = maxZ (minZ sum (pos 1000000)) (negsuc 999999)
+
+-- the amount of two counters composed
 abbrev pub added : ℤ → ℤ → ℤ
-added a b = maxZ (minZ (a +ℤ b) (pos 1000000)) (negsuc 999999)
+added a b = limited-amount (a +ℤ b)
 
 pub added-least : (a b : ℤ) → negsuc 999999 ≤ℤ added a b
 added-least a b = omega (arith, ints, clamps)

@@ -5,7 +5,7 @@ ghost use lib.IntN.{pos, negsuc};
 ghost use lib.Signed.{_≤ℤ_};
 ghost use Rattle.std.specs.Orderings.{When};
 ghost use Rattle.std.specs.declared.option.Option.the-variants.{Some, None};
-ghost use Rattle.counter.specs.Counting.{level-of, InBounds, counter-of, limited, no-level, level-after, added, no-count, joined};
+ghost use Rattle.counter.specs.Counting.{level-of, InBounds, counter-of, limited, no-level, level-after, limited-amount, added, no-count, joined};
 ghost use Rattle.counter.specs.declared.Level.{Level};
 ghost use Rattle.counter.specs.declared.Counter.{Counter};
 ghost use Rattle.counter.specs.Packing.{counter-words, counter-read, level-words};
@@ -83,7 +83,7 @@ impl Counter {
         requires limits { ⌜ (floor ≤ ceiling) × (ceiling ≤ 1000000) ⌝ }
         ensures { λ r. ⌜ ((c : Counter) → added first second ≡ c .amount → floor ≡ c .floor → ceiling ≡ c .ceiling → r ≡ c) ⌝ }
     {
-        let amount = (first + second).min(Counter::MOST).max(-Counter::MOST);
+        let amount = limit_amount(first + second);
         Counter::exactly(amount, floor, ceiling)
     }
 
@@ -104,6 +104,15 @@ impl Counter {
     {
         (self.limit(first.floor), self.limit(first.ceiling))
     }
+}
+
+// An amount limited to what it may be.
+fn limit_amount(sum: i32) -> i32
+    ensures value { λ r. ⌜ r ≡ limited-amount sum ⌝ }
+    ensures least { λ r. ⌜ negsuc 999999 ≤ℤ r ⌝ }
+    ensures most { λ r. ⌜ r ≤ℤ pos 1000000 ⌝ }
+{
+    sum.min(Counter::MOST).max(-Counter::MOST)
 }
 
 // Adds the amount, then raises to the floor, then lowers to the ceiling.
