@@ -8,7 +8,7 @@ use lib.Signed.{_≤ℤ_, leZ}
 use Rattle.std.specs.declared.option.Option.{Option}
 use Rattle.std.specs.declared.option.Option.the-variants.{Some, None}
 use Rattle.words.proofs.Giving.{given-passed, given-some, none-where, some-same}
-use Rattle.counter.specs.Counting.{level-of, counter-of}
+use Rattle.counter.specs.Counting.{level-of, InBounds, counter-of}
 use Rattle.counter.specs.declared.Level.{Level}
 use Rattle.counter.specs.declared.Counter.{Counter}
 use Rattle.counter.proofs.Sames.{same-level, same-counter}
@@ -40,7 +40,7 @@ IsLevel n None = n ≤ 1000000 → ⊥
 IsLevel n (Some l) = l .hundredths ≡ n
 
 abbrev pub IsCounter : ℤ → ℕ → ℕ → Option Counter → Type 0
-IsCounter amount floor ceiling None = (negsuc 999999 ≤ℤ amount) × (amount ≤ℤ pos 1000000) × (floor ≤ ceiling) × (ceiling ≤ 1000000) → ⊥
+IsCounter amount floor ceiling None = InBounds amount floor ceiling → ⊥
 IsCounter amount floor ceiling (Some c) = (c .amount ≡ amount) × (c .floor ≡ floor) × (c .ceiling ≡ ceiling)
 
 pub level-is : (n : ℕ) (r : Option Level) → IsLevel n r → r ≡ level-of n

@@ -8,7 +8,7 @@ use Rattle.std.specs.declared.option.Option.{Option}
 use Rattle.std.specs.declared.option.Option.the-variants.{Some, None}
 use Rattle.words.proofs.Giving.{given-passed, given-some, none-where, some-same}
 use Rattle.settings.specs.Masks.{masked}
-use Rattle.settings.specs.Overwriting.{settings-of}
+use Rattle.settings.specs.Overwriting.{Proper, settings-of}
 use Rattle.settings.specs.declared.Setup.{Setup}
 use Rattle.settings.specs.declared.Settings.{Settings}
 use Rattle.settings.proofs.Sames.{same-settings}
@@ -39,7 +39,7 @@ settings-from mask values s is =
 
 -- r holds the settings of a mask and values, or is none where there are none such
 abbrev pub IsSettings : ℕ → Setup → Option Settings → Type 0
-IsSettings mask values None = (mask < 16) × (masked mask 0 ≡ false → values .batch ≡ 0) × (masked mask 1 ≡ false → values .nozzle ≡ 0) × (masked mask 2 ≡ false → values .plate ≡ 0) × (masked mask 3 ≡ false → values .profile ≡ 0) → ⊥
+IsSettings mask values None = Proper mask values → ⊥
 IsSettings mask values (Some s) = (s .mask ≡ mask) × (s .values ≡ values)
 
 pub settings-is : (mask : ℕ) (values : Setup) (r : Option Settings) → IsSettings mask values r → r ≡ settings-of mask values

@@ -37,13 +37,13 @@ setup-back : (word : ℕ) (small : T (ltb word (2 ^ 64))) → setup-word (setup-
 setup-back word small = omega arith
 
 -- reading a mask and the word of values
-pub read-is : (mask word : ℕ) (s : Setup) → setup-word s ≡ word → settings-of mask s ≡ settings-read (record { first = mask; second = word })
-read-is mask word s is =
-    let small = lt→ltb word (2 ^ 64) (rw (sym is) (setup-small s)) in
-    sym (given-passed (ltb word (2 ^ 64)) _ small ∙ ap (settings-of mask) (setup-is word small s is))
+pub read-is : (w : EffectWords) (s : Setup) → setup-word s ≡ w .second → settings-of (w .first) s ≡ settings-read w
+read-is w s is =
+    let small = lt→ltb (w .second) (2 ^ 64) (rw (sym is) (setup-small s)) in
+    sym (given-passed (ltb (w .second) (2 ^ 64)) _ small ∙ ap (settings-of (w .first)) (setup-is (w .second) small s is))
 
 pub settings-reads-back : (s : Settings) → settings-read (settings-words s) ≡ Some s
-settings-reads-back s = sym (read-is (s .mask) (setup-word (s .values)) (s .values) refl) ∙ settings-back s
+settings-reads-back s = sym (read-is (settings-words s) (s .values) refl) ∙ settings-back s
 
 pub settings-reads-only : (w : EffectWords) (s : Settings) → settings-read w ≡ Some s → settings-words s ≡ w
 settings-reads-only w s is =

@@ -14,11 +14,15 @@ use Rattle.settings.specs.Masks.{masked, over}
 use Rattle.settings.specs.declared.Setup.{Setup}
 use Rattle.settings.specs.declared.Settings.{Settings}
 
+-- what all settings keep: a mask 00 to 0f, and values that are 0 where it has no field
+abbrev pub Proper : ℕ → Setup → Type 0
+Proper mask values = (mask < 16) × (masked mask 0 ≡ false → values .batch ≡ 0) × (masked mask 1 ≡ false → values .nozzle ≡ 0) × (masked mask 2 ≡ false → values .plate ≡ 0) × (masked mask 3 ≡ false → values .profile ≡ 0)
+
 pub bare-from : (b : Bool) (n : ℕ) → T (b || eqb n 0) → b ≡ false → n ≡ 0
 bare-from true n passed off = absurd (true≢false off)
 bare-from false n passed off = eqb→eq n 0 passed
 
--- the settings of a mask 00 to 0f and of values that are 0 where it has no field, or none
+-- the settings of a mask and values, or none where these are not proper
 abbrev pub settings-of : ℕ → Setup → Option Settings
 settings-of mask values =
     given (ltb mask 16) (λ four. given (masked mask 0 || eqb (values .batch) 0) (λ p. given (masked mask 1 || eqb (values .nozzle) 0) (λ q. given (masked mask 2 || eqb (values .plate) 0) (λ r. given (masked mask 3 || eqb (values .profile) 0) (λ s.

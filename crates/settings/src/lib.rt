@@ -5,6 +5,7 @@ ghost use Prim.Native.Nat.{_<_};
 ghost use Rattle.settings.specs.Masks.{masked};
 
 mod kind;
+mod parts;
 
 pub use kind::SettingsEffect;
 

@@ -13,7 +13,7 @@ use Rattle.std.specs.declared.option.Option.the-variants.{Some, None}
 use Rattle.words.specs.declared.EffectWords.{EffectWords}
 use Rattle.words.proofs.Giving.{given-passed, given-some, some-same, none-where, same-effect-words}
 use Rattle.status.specs.Codes.{status-of, code-of}
-use Rattle.status.specs.Packing.{octal, digits, transitions-words, transitions-read}
+use Rattle.status.specs.Packing.{octal, digits, transitions-words, InRange, entries-read, transitions-read}
 use Rattle.status.specs.declared.Status.{Status}
 use Rattle.status.specs.declared.Transitions.{Transitions}
 use Rattle.status.proofs.Sames.{same-transitions}
@@ -44,10 +44,10 @@ entries-lt (s ∷ ss) zero few = absurd (omega arith)
 entries-lt (s ∷ ss) (suc k) few = omega (arith, entries-lt ss k (omega arith), code-small s, pow-suc 8 k)
 
 -- what the entries from i on write
-pub octal-rest : (f : Transitions) (i : ℕ) → octal (map code-of (drop i (f .entries))) < 8 ^ 8
-octal-rest f i = entries-lt (drop i (f .entries)) 8 (omega (arith, length-drop i (f .entries), f .eight))
+pub octal-rest : (ss : List Status) (i : ℕ) → length ss ≡ 8 → octal (map code-of (drop i ss)) < 8 ^ 8
+octal-rest ss i eight = entries-lt (drop i ss) 8 (omega (arith, length-drop i ss))
 
-pub transitions-is : (w : EffectWords) (f : Transitions) → w .first < 8 ^ 8 → w .second ≡ 0 → f .entries ≡ map status-of (digits 8 (w .first)) → Some f ≡ transitions-read w
+pub transitions-is : (w : EffectWords) (f : Transitions) → w .first < 8 ^ 8 → w .second ≡ 0 → f .entries ≡ entries-read w → Some f ≡ transitions-read w
 transitions-is w f small none entries =
     sym (given-passed (ltb (w .first) (8 ^ 8)) _ (lt→ltb (w .first) (8 ^ 8) small) ∙ given-passed (eqb (w .second) 0) _ (rw (eq-eqb (w .second) 0 none) tt) ∙ ap Some (same-transitions _ f (sym entries)))
 
@@ -68,12 +68,12 @@ transitions-reads-only w f is =
     (sym (eqb→eq (w .second) 0 (two .0)))
 
 -- words past 8 ^ 8, or with a second word, are no transitions'
-pub reads-none : (w : EffectWords) → (w .first < 8 ^ 8 → w .second ≡ 0 → ⊥) → None ≡ transitions-read w
+pub reads-none : (w : EffectWords) → (InRange w → ⊥) → transitions-read w ≡ None
 reads-none w never =
-    sym (none-where _ (λ f is.
+    none-where _
+    (λ f is.
     let one = given-some (ltb (w .first) (8 ^ 8)) _ f is in
-    let two = given-some (eqb (w .second) 0) _ f (one .1) in
-    never (ltb→lt (w .first) (8 ^ 8) (one .0)) (eqb→eq (w .second) 0 (two .0))))
+    let two = given-some (eqb (w .second) 0) _ f (one .1) in never (ltb→lt (w .first) (8 ^ 8) (one .0), eqb→eq (w .second) 0 (two .0)))
 
 -- one digit of what is left read into entry i
 pub digit-more : (xs want : List Status) (i rest : ℕ) → i < 8 → length xs ≡ 8 → take i xs ++ map status-of (digits (8 - i) rest) ≡ want → take (i + 1) (set xs i (status-of (rest % 8))) ++ map status-of (digits (8 - (i + 1)) (rest / 8)) ≡ want

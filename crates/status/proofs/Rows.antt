@@ -8,7 +8,7 @@ use lib.ListN.{length, getD, length-map}
 use Rattle.std.specs.Joined.{joined}
 use Rattle.std.proofs.shelf.Lists.{getD-append-left, getD-append-add, getD-map}
 use Rattle.status.specs.Codes.{status-of}
-use Rattle.status.specs.Events.{events, event-code, row, becomes, becomes-eight}
+use Rattle.status.specs.Events.{events, event-code, row, rows, becomes, becomes-eight}
 use Rattle.status.specs.declared.Event.{Event}
 use Rattle.status.specs.declared.Event.the-variants.{PowerOn, PowerOff, Heat, Start, Pause, Resume, EndOfJob, Cooled, IntoService, OutOfService, Fault}
 use Rattle.status.specs.declared.Status.the-variants.{Off}
@@ -16,10 +16,6 @@ use Rattle.status.specs.declared.Status.the-variants.{Off}
 -- an event's row as numbers
 abbrev numbers : Event → List ℕ
 numbers event = map (λ c. c - 48) (row event)
-
--- the rows of all events, one after the other
-abbrev pub rows : List ℕ
-rows = joined numbers events
 
 numbers-eight : (event : Event) → length (numbers event) ≡ 8
 numbers-eight event = length-map (row event) (λ c. c - 48) ∙ sym (length-map (row event) (λ c. status-of (c - 48))) ∙ becomes-eight event

@@ -6,6 +6,7 @@ use lib.Chars.{codes}
 use lib.ListN.{length, getD}
 use Rattle.std.specs.declared.option.Option.{Option}
 use Rattle.std.specs.declared.option.Option.the-variants.{None}
+use Rattle.std.specs.Joined.{joined}
 use Rattle.std.specs.Runs.{nth}
 use Rattle.status.specs.Codes.{status-of}
 use Rattle.status.specs.declared.Status.{Status}
@@ -49,7 +50,11 @@ row IntoService = codes "06234566"
 row OutOfService = codes "01234517"
 row Fault = codes "07777777"
 
--- the same as statuses; the character of digit n is 48 + n
+-- the rows of all events as numbers, one after the other; the character of digit n is 48 + n
+abbrev pub rows : List ℕ
+rows = joined (λ event. map (λ c. c - 48) (row event)) events
+
+-- a row as statuses
 abbrev pub becomes : Event → List Status
 becomes event = map (λ c. status-of (c - 48)) (row event)
 

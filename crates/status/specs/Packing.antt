@@ -1,7 +1,7 @@
 -- The words of transitions and of a status.
-use mathlib.Core.Path.{refl}
+use mathlib.Core.Path.{_≡_, refl}
 use mathlib.Core.List.{List, [], _∷_, map}
-use Prim.Native.Nat.{ℕ, zero, suc, _+_, _*_, _/_, _%_, _^_}
+use Prim.Native.Nat.{ℕ, zero, suc, _+_, _*_, _/_, _%_, _^_, _<_}
 use lib.Dec.{ltb, eqb}
 use Rattle.std.specs.declared.option.Option.{Option}
 use Rattle.std.specs.declared.option.Option.the-variants.{Some}
@@ -25,9 +25,16 @@ digits (suc k) n = (n % 8) ∷ digits k (n / 8)
 abbrev pub transitions-words : Transitions → EffectWords
 transitions-words f = record { first = octal (map code-of (f .entries)); second = 0 }
 
+-- words that are some transitions': eight digits, and nothing in the second word
+abbrev pub InRange : EffectWords → Type 0
+InRange w = (w .first < 8 ^ 8) × (w .second ≡ 0)
+
+abbrev pub entries-read : EffectWords → List Status
+entries-read w = map status-of (digits 8 (w .first))
+
 -- the transitions that words are those of, or none
 abbrev pub transitions-read : EffectWords → Option Transitions
-transitions-read w = given (ltb (w .first) (8 ^ 8)) (λ _. given (eqb (w .second) 0) (λ _. Some (record { entries = map status-of (digits 8 (w .first)); eight = refl })))
+transitions-read w = given (ltb (w .first) (8 ^ 8)) (λ _. given (eqb (w .second) 0) (λ _. Some (record { entries = entries-read w; eight = refl })))
 
 abbrev pub status-words : Status → StateWords
 status-words s = record { first = code-of s }

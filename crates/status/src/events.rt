@@ -3,7 +3,7 @@ ghost use mathlib.Core.Path.{_≡_};
 ghost use Prim.Native.Nat.{_<_};
 ghost use lib.ListN.{getD};
 ghost use Rattle.status.specs.declared.Status.the-variants.{Off};
-ghost use Rattle.status.specs.Events.{event-code, event-of, becomes, event-transitions};
+ghost use Rattle.status.specs.Events.{event-code, event-of, rows, becomes, event-transitions};
 use super::Event;
 use super::Status;
 use super::Transitions;
@@ -24,12 +24,30 @@ const ROWS: [u8; 88] = [
     0, 7, 7, 7, 7, 7, 7, 7, // fault
 ];
 
+fn table_entry(k: usize) -> u8
+    requires { ⌜ k < 88 ⌝ }
+    ensures { λ r. ⌜ r ≡ getD rows k 0 ⌝ }
+{
+    ROWS[k]
+}
+
 // What the event makes of the status of code i.
 fn entry(event: Event, i: usize) -> Status
     requires { ⌜ i < 8 ⌝ }
     ensures { λ r. ⌜ r ≡ getD (becomes event) i Off ⌝ }
 {
-    Status::of_digit(ROWS[(event.code() as usize - 1) * 8 + i])
+    Status::of_digit(table_entry((event.code() as usize - 1) * 8 + i))
+}
+
+// What the event makes of every status.
+fn transitions_of(event: Event) -> Transitions
+    ensures { λ r. ⌜ r ≡ event-transitions event ⌝ }
+{
+    let mut entries = [Status::Off; 8];
+    for i in 0..8 {
+        entries[i] = entry(event, i);
+    }
+    Transitions::new(entries)
 }
 
 impl Event {
@@ -61,10 +79,6 @@ impl Event {
     pub fn transitions(self) -> Transitions
         ensures { λ r. ⌜ r ≡ event-transitions self ⌝ }
     {
-        let mut entries = [Status::Off; 8];
-        for i in 0..8 {
-            entries[i] = entry(self, i);
-        }
-        Transitions { entries }
+        transitions_of(self)
     }
 }

@@ -1,9 +1,14 @@
 // What transitions do to a status, and the words that they are kept as.
 ghost use mathlib.Core.Path.{_≡_};
+ghost use mathlib.Core.List.{map};
+ghost use Rattle.std.specs.Orderings.{When};
+ghost use Rattle.std.specs.declared.option.Option.the-variants.{Some, None};
+ghost use Rattle.words.specs.declared.EffectWords.{EffectWords};
+ghost use Rattle.status.specs.declared.Transitions.{Transitions};
 ghost use Rattle.status.specs.declared.Status.the-variants.{Off};
 ghost use Rattle.status.specs.Codes.{code-of, status-of};
 ghost use Rattle.status.specs.Turns.{turned, no-turns, joined};
-ghost use Rattle.status.specs.Packing.{transitions-words, transitions-read, status-words};
+ghost use Rattle.status.specs.Packing.{octal, digits, transitions-words, InRange, transitions-read, status-words};
 use super::Status;
 use super::Transitions;
 use effects::Effect;
@@ -35,11 +40,83 @@ impl Status {
 }
 
 impl Transitions {
+    // Each status becomes itself.
+    fn identity() -> Transitions
+        ensures { λ r. ⌜ r ≡ no-turns ⌝ }
+    {
+        Transitions {
+            entries: [
+                Status::Off,
+                Status::Idle,
+                Status::Heating,
+                Status::Printing,
+                Status::Paused,
+                Status::Cooling,
+                Status::Service,
+                Status::Fault,
+            ],
+        }
+    }
+
+    // These transitions and then others, as a new array.
+    fn then(self, second: Transitions) -> Transitions
+        ensures { λ r. ⌜ r ≡ joined self second ⌝ }
+    {
+        let mut entries = [Status::Off; 8];
+        for i in 0..8 {
+            entries[i] = second.act(self.entries[i]);
+        }
+        Transitions::new(entries)
+    }
+
+    // The transitions of the lowest eight octal digits of a number.
+    fn from_octal(number: u64) -> Transitions
+        ensures { λ r. ⌜ ((w : EffectWords) → InRange w → number ≡ w .first → Some r ≡ transitions-read w) ⌝ }
+    {
+        Transitions {
+            entries: octal_statuses(number),
+        }
+    }
+
     pub fn new(entries: [Status; 8]) -> Transitions
         ensures { λ r. ⌜ r .entries ≡ entries ⌝ }
     {
         Transitions { entries }
     }
+}
+
+// The codes of the entries as one number, entry i times 8^i.
+fn to_octal(entries: [Status; 8]) -> u64
+    ensures { λ r. ⌜ r ≡ octal (map code-of entries) ⌝ }
+{
+    let mut number = 0;
+    for i in (0..8).rev() {
+        number = number * 8 + entries[i].code() as u64;
+    }
+    number
+}
+
+// The statuses of the lowest eight octal digits, the lowest first.
+fn octal_statuses(number: u64) -> [Status; 8]
+    ensures { λ r. ⌜ r ≡ map status-of (digits 8 number) ⌝ }
+{
+    let mut entries = [Status::Off; 8];
+    let mut rest = number;
+    for i in 0..8 {
+        entries[i] = Status::of_digit((rest % 8) as u8);
+        rest /= 8;
+    }
+    entries
+}
+
+// Whether words are those of transitions.
+fn in_range(stored: EffectWords) -> bool
+    ensures { λ r. ⌜ When r (InRange stored) (transitions-read stored ≡ None) ⌝ }
+{
+    if stored.first >= 1 << 24 || stored.second != 0 {
+        return false;
+    }
+    true
 }
 
 pub impl Effect for Transitions as TransitionsEffect {
@@ -60,22 +137,11 @@ pub impl Effect for Transitions as TransitionsEffect {
     ghost written = { status-words };
 
     fn start_state() -> Status {
-        Status::Off
+        Status::of_digit(0)
     }
 
     fn no_change() -> Transitions {
-        Transitions {
-            entries: [
-                Status::Off,
-                Status::Idle,
-                Status::Heating,
-                Status::Printing,
-                Status::Paused,
-                Status::Cooling,
-                Status::Service,
-                Status::Fault,
-            ],
-        }
+        Transitions::identity()
     }
 
     fn act(self, status: Status) -> Status {
@@ -83,32 +149,22 @@ pub impl Effect for Transitions as TransitionsEffect {
     }
 
     fn compose(self, second: Transitions) -> Transitions {
-        let mut entries = [Status::Off; 8];
-        for i in 0..8 {
-            entries[i] = second.act(self.entries[i]);
-        }
-        Transitions { entries }
+        self.then(second)
     }
 
     fn to_words(self) -> EffectWords {
-        let mut first = 0;
-        for i in (0..8).rev() {
-            first = first * 8 + self.entries[i].code() as u64;
+        EffectWords {
+            first: to_octal(self.entries),
+            second: 0,
         }
-        EffectWords { first, second: 0 }
     }
 
     fn from_words(stored: EffectWords) -> Option<Transitions> {
-        if stored.first >= 1 << 24 || stored.second != 0 {
-            return None;
+        if in_range(stored) {
+            Some(Transitions::from_octal(stored.first))
+        } else {
+            None
         }
-        let mut entries = [Status::Off; 8];
-        let mut rest = stored.first;
-        for i in 0..8 {
-            entries[i] = Status::of_digit((rest % 8) as u8);
-            rest /= 8;
-        }
-        Some(Transitions { entries })
     }
 
     fn state_words(status: Status) -> StateWords {
