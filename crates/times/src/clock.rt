@@ -2,6 +2,7 @@
 ghost use Prim.Native.Nat.{_<_, _^_};
 
 mod kind;
+mod parts;
 
 pub use kind::ClockTime;
 

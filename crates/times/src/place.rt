@@ -3,6 +3,7 @@ ghost use Prim.Native.Nat.{_<_, _^_};
 ghost use lib.Signed.{mag};
 
 mod kind;
+mod parts;
 
 pub use kind::PlaceTime;
 

@@ -1,5 +1,7 @@
 // The order of clock times, and their words.
 ghost use mathlib.Core.Path.{_≡_};
+ghost use Prim.Native.Nat.{_<_, _^_};
+ghost use Rattle.std.specs.declared.option.Option.the-variants.{Some};
 ghost use Rattle.times.specs.Clocks.{clock-of, clock-upto, clock-word};
 use super::Clock;
 use crate::Time;
@@ -7,19 +9,21 @@ use crate::Time;
 impl Clock {
     pub const LAST: u64 = 1_099_511_627_775;
 
+    // The time of so many seconds, which the clock reaches.
+    fn exactly(seconds: u64) -> Clock
+        requires { ⌜ seconds < 2 ^ 40 ⌝ }
+        ensures { λ r. ⌜ Some r ≡ clock-of seconds ⌝ }
+    {
+        Clock { seconds }
+    }
+
     pub fn new(seconds: u64) -> Option<Clock>
         ensures { λ r. ⌜ r ≡ clock-of seconds ⌝ }
     {
         if seconds > Clock::LAST {
             return None;
         }
-        Some(Clock { seconds })
-    }
-
-    pub fn seconds(self) -> u64
-        ensures { λ r. ⌜ r ≡ self .seconds ⌝ }
-    {
-        self.seconds
+        Some(Clock::exactly(seconds))
     }
 }
 
@@ -35,7 +39,7 @@ pub impl Time for Clock as ClockTime {
     }
 
     fn to_word(self) -> u64 {
-        self.seconds
+        self.seconds()
     }
 
     fn from_word(stored: u64) -> Option<Clock> {

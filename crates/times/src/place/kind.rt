@@ -1,26 +1,18 @@
 // The order of places, and their words.
 ghost use mathlib.Core.Path.{_≡_};
+ghost use Rattle.std.specs.declared.option.Option.the-variants.{Some};
 ghost use Rattle.times.specs.Places.{place-upto, place-word, place-read};
 use super::Place;
 use crate::Time;
 
 impl Place {
-    pub fn new(job: u32, layer: i32) -> Place
-        ensures { λ r. ⌜ (r .job ≡ job) × (r .layer ≡ layer) ⌝ }
+    // The place of a word; every word of 64 bits is one's.
+    fn of_word(word: u64) -> Place
+        ensures { λ r. ⌜ Some r ≡ place-read word ⌝ }
     {
+        let job = (word >> 32) as u32;
+        let layer = ((word % (1 << 32)) as u32).cast_signed();
         Place { job, layer }
-    }
-
-    pub fn job(self) -> u32
-        ensures { λ r. ⌜ r ≡ self .job ⌝ }
-    {
-        self.job
-    }
-
-    pub fn layer(self) -> i32
-        ensures { λ r. ⌜ r ≡ self .layer ⌝ }
-    {
-        self.layer
     }
 }
 
@@ -40,8 +32,6 @@ pub impl Time for Place as PlaceTime {
     }
 
     fn from_word(stored: u64) -> Option<Place> {
-        let job = (stored >> 32) as u32;
-        let layer = ((stored % (1 << 32)) as u32).cast_signed();
-        Some(Place { job, layer })
+        Some(Place::of_word(stored))
     }
 }
