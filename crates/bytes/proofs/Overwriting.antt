@@ -40,3 +40,10 @@ past-overwritten bytes at part within =
     sym (drop-drop (length part) at (overwritten bytes at part))
     ∙ ap (drop (length part)) (from-overwritten bytes at part within)
     ∙ drop-at part (drop (at + length part) bytes) (length part) refl
+
+-- parts that are written one after another: `laid` are the bytes so far, up to `at`, and `part` is written next
+pub next-overwritten : (was now written part laid : List ℕ) (at end : ℕ) → now ≡ overwritten was at written → written ≡ part → end ≡ at + length part → end ≤ length was → take at was ≡ laid → take end now ≡ laid ++ part
+next-overwritten was now written part laid at end after same ends within before =
+    ap (take end) (after ∙ ap (overwritten was at) same)
+    ∙ through-overwritten was at end part (omega arith) ends
+    ∙ ap (λ (l : List ℕ). l ++ part) before
