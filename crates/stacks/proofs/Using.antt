@@ -24,20 +24,21 @@ ok-no-error (Ok x) a ok error = absurd (let z : _≡_ {A = ℕ} 0 1 = cc in omeg
 ok-no-error (Err e) a ok error = absurd (let z : _≡_ {A = ℕ} 0 1 = cc in omega arith)
 
 -- a get of the number that a put answered answers the cell
-pub put-then-got : (m n : Meaning) (c : Cell) (number : ℕ) → Ok number ≡ put-answer m → n ≡ after-put m c → got n number ≡ Ok c
-put-then-got m n c number ok after =
+pub got-again : (m n : Meaning) (c : Cell) (number : ℕ) (r : Result Cell Fault) → Ok number ≡ put-answer m → n ≡ after-put m c → r ≡ got n number → r ≡ Ok c
+got-again m n c number r ok after got-it =
     let free = put-accepted m number ok in
-    ap (λ (o : Meaning). got o number) (after ∙ after-free m c (free .0))
+    got-it
+    ∙ ap (λ (o : Meaning). got o number) (after ∙ after-free m c (free .0))
     ∙ ap (got (with-cells m (c ∷ []))) (free .1)
     ∙ sym (there-got (with-cells m (c ∷ [])) (length (m .cells) + 1) c (cell-last (m .cells) c))
 
--- and is what an accepted put answers
-pub accepted-answer : (m : Meaning) (c : Cell) (number : ℕ) → Ok number ≡ put-answer m → Ok c ≡ unless (fault-of m 1) c
-accepted-answer m c number ok = sym (ap (λ (fault : Option Fault). unless fault c) (put-accepted m number ok .0))
+-- which is what an accepted put of it promises
+pub accepted-again : (m : Meaning) (c : Cell) (number : ℕ) (r : Result Cell Fault) → Ok number ≡ put-answer m → r ≡ Ok c → r ≡ unless (fault-of m 1) c
+accepted-again m c number r ok again = again ∙ sym (ap (λ (fault : Option Fault). unless fault c) (put-accepted m number ok .0))
 
 -- all n copies are what the claim promised
-pub all-copies : (m : Meaning) (c : Cell) (n i : ℕ) → fault-of m n ≡ None → i ≡ n → with-cells m (replicate i c) ≡ after-copies m c n
-all-copies m c n i free all = ap (λ (k : ℕ). with-cells m (replicate k c)) all ∙ sym (ap (λ (fault : Option Fault). copies-unless fault m c n) free)
+pub all-copies : (m now : Meaning) (c : Cell) (n i : ℕ) → fault-of m n ≡ None → i ≡ n → now ≡ with-cells m (replicate i c) → now ≡ after-copies m c n
+all-copies m now c n i free all copies = copies ∙ ap (λ (k : ℕ). with-cells m (replicate k c)) all ∙ sym (ap (λ (fault : Option Fault). copies-unless fault m c n) free)
 
 -- After i of n claimed puts the next one is accepted.
 module _ (m : Meaning) (c : Cell) (n i : ℕ) (free : fault-of m n ≡ None) (more : i < n) where

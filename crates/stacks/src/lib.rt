@@ -77,3 +77,91 @@ pub fn through_table(
     let mut stack = Cache::open(Quota::open(Cache::open(Quota::open(table, quota)), quota));
     Ok(put_and_get(&mut stack, cell))
 }
+
+#[cfg(test)]
+mod tests {
+    use super::*;
+    use std::test::*;
+    use words::EffectWords;
+
+    // A cell that is told from others by its time.
+    fn cell(time: u64) -> Cell {
+        let own = EffectWords {
+            first: 1,
+            second: 2,
+        };
+        Cell {
+            time,
+            number: 3,
+            left: 4,
+            right: 5,
+            height: 6,
+            own,
+            total: own,
+        }
+    }
+
+    // The number and place of a refusal, or zeros.
+    fn refusal<T: Drop>(answer: Result<T, Fault>) -> (u8, u32) {
+        match answer {
+            Ok(_) => (0, 0),
+            Err(fault) => fault.number_and_place(),
+        }
+    }
+
+    // The time of the cell that was got, or 0.
+    fn time(answer: Result<Cell, Fault>) -> u64 {
+        match answer {
+            Ok(cell) => cell.time,
+            Err(_) => 0,
+        }
+    }
+
+    // 44,800 bytes hold 800 cells.
+    #[test]
+    fn fills_to_the_limit(rt: LibcRuntime) -> Result<(), Fail> {
+        let bytes = vec![in rt.alloc(); 7u8; 44_800]?;
+        let mut stack = Cache::open(Quota::open(Image::open(bytes), 1_000));
+        check_eq(refusal(put_copies(&mut stack, cell(9), 801)), (0x32, 800))?;
+        check_eq(refusal(put_copies(&mut stack, cell(9), 800)), (0, 0))?;
+        check_eq(stack.len(), 800)?;
+        check_eq(refusal(stack.put(cell(9))), (0x32, 0))?;
+        check_eq(time(stack.get(800)), 9)
+    }
+
+    // 130 bytes have room for two cells, and 18 bytes past them.
+    #[test]
+    fn leaves_the_bytes_past_its_cells(rt: LibcRuntime) -> Result<(), Fail> {
+        let bytes = vec![in rt.alloc(); 7u8; 130]?;
+        let (answer, bytes) = through_image(bytes, 9, cell(258));
+        check_eq(time(answer), 258)?;
+        check(bytes.len() == 130)?;
+        check_eq((bytes[5], bytes[6], bytes[7]), (0, 1, 2))?;
+        check_eq((bytes[55], bytes[56], bytes[129]), (2, 7, 7))
+    }
+
+    // Every refusal, with its place.
+    #[test]
+    fn refuses(rt: LibcRuntime) -> Result<(), Fail> {
+        let table = Table::open(rt.alloc(), 3)?;
+        let mut stack = Cache::open(Quota::open(Cache::open(table), 2));
+        check_eq(refusal(stack.claim(3)), (0x31, 2))?;
+        check_eq(refusal(put_copies(&mut stack, cell(1), 2)), (0, 0))?;
+        check_eq(refusal(stack.put(cell(1))), (0x31, 0))?;
+        check_eq(refusal(stack.get(0)), (0x33, 0))?;
+        check_eq(refusal(stack.get(3)), (0x33, 3))?;
+        let below = stack.into_below().into_below();
+        check_eq(refusal(below.claim(2)), (0x32, 1))
+    }
+
+    // Cells 1 and 17 share a line of the cache.
+    #[test]
+    fn shares_a_line(rt: LibcRuntime) -> Result<(), Fail> {
+        let mut stack = Cache::open(Table::open(rt.alloc(), 17)?);
+        check_eq(refusal(stack.put(cell(1))), (0, 0))?;
+        check_eq(refusal(put_copies(&mut stack, cell(2), 16)), (0, 0))?;
+        check_eq(time(stack.get(1)), 1)?;
+        check_eq(time(stack.get(17)), 2)?;
+        check_eq(time(stack.get(1)), 1)
+    }
+}

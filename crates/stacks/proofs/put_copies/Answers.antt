@@ -1,6 +1,6 @@
 -- What was claimed can be put, so no put is refused.
 use borrow.Author.Needs.{needs}
-use mathlib.Core.Path.{_≡_, sym, _∙_}
+use mathlib.Core.Path.{_≡_, sym}
 use native.Mathlib.Omega.{arith}
 use Rattle.store.proofs.Granting.{claim-accepted, with-none}
 use Rattle.stacks.proofs.Using.{all-copies, next-accepted, next-copy}
@@ -33,6 +33,6 @@ returns g c =
     record {
       stays = c .loop-i .inv .0;
       answer = c .in-Continue-claim .ensures tt;
-      after = c .loop-i .inv .1 ∙ all-copies m (c .args .cell) (c .args .n) (c .loop-i .-i) free all;
+      after = all-copies m (g .S·Store .meaning (c .loop-i .store)) (c .args .cell) (c .args .n) (c .loop-i .-i) free all (c .loop-i .inv .1);
       untouched = search needs;
     }
