@@ -1,5 +1,6 @@
 // An image: a base store in bytes that are handed in, with its cells one after another from the first byte on.
 ghost use Prim.Native.Nat.{_*_, _≤_};
+ghost use Rattle.bases.specs.Bases.{most-cells};
 ghost use Rattle.std.specs.Of.Vec.{vec-len};
 ghost use Rattle.cells.specs.Layout.{cell-width};
 
@@ -13,5 +14,5 @@ pub struct Image {
     capacity: u32,
     ghost within: { len ≤ capacity },
     ghost room: { capacity * cell-width ≤ vec-len bytes },
-    ghost small: { capacity ≤ 1048576 },
+    ghost small: { capacity ≤ most-cells },
 }

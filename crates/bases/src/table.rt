@@ -1,5 +1,6 @@
 // A table: a base store in memory that is obtained when it opens.
 ghost use Prim.Native.Nat.{_≤_};
+ghost use Rattle.bases.specs.Bases.{most-cells};
 ghost use Rattle.std.specs.Of.Vec.{vec-len, vec-cap};
 use cells::Cell;
 
@@ -12,5 +13,5 @@ pub struct Table {
     capacity: u32,
     ghost within: { vec-len cells ≤ capacity },
     ghost reserved: { capacity ≤ vec-cap cells },
-    ghost small: { capacity ≤ 1048576 },
+    ghost small: { capacity ≤ most-cells },
 }

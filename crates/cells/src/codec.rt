@@ -2,7 +2,7 @@
 ghost use mathlib.Core.Path.{_≡_};
 ghost use Prim.Native.Nat.{_+_, _≤_};
 ghost use lib.ListN.{length};
-ghost use Rattle.cells.specs.Layout.{layout, words-layout, cell-of, words-at, worth-at};
+ghost use Rattle.cells.specs.Layout.{layout, words-layout, cell-of, words-at, words-width, worth-at};
 use crate::Cell;
 use bytes::overwrite;
 use bytes::u32_bytes;
@@ -73,7 +73,7 @@ pub fn decode(bytes: &[u8; CELL_BYTES]) -> Cell
 
 // The words of an effect from place `at` on.
 fn words_at(bytes: &[u8], at: usize) -> EffectWords
-    requires { ⌜ at + 16 ≤ length (now bytes) ⌝ }
+    requires { ⌜ at + words-width ≤ length (now bytes) ⌝ }
     ensures { λ r. ⌜ r ≡ words-at (now (bytes .entry)) at ⌝ }
 {
     EffectWords {

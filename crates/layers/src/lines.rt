@@ -2,31 +2,17 @@
 ghost use mathlib.Core.Path.{_≡_};
 ghost use Rattle.layers.specs.Lines.{no-lines, held, with-line};
 use cells::Cell;
-use words::EffectWords;
 
-// A cell and its number; number 0 for an empty line.
+// The cell of a number, or none in an empty line.
 #[derive(Clone, Copy)]
 pub struct Line {
     pub number: u32,
-    pub cell: Cell,
+    pub cell: Option<Cell>,
 }
-
-const NO_WORDS: EffectWords = EffectWords {
-    first: 0,
-    second: 0,
-};
 
 const EMPTY: Line = Line {
     number: 0,
-    cell: Cell {
-        time: 0,
-        number: 0,
-        left: 0,
-        right: 0,
-        height: 0,
-        own: NO_WORDS,
-        total: NO_WORDS,
-    },
+    cell: None,
 };
 
 // Cell number k has the line numbered k modulo 16.
@@ -48,17 +34,16 @@ impl Lines {
         ensures { λ r. ⌜ r ≡ held (now (self .entry) .table) k ⌝ }
     {
         let line = self.table[k as usize % 16];
-        if k > 0 && line.number == k {
-            Some(line.cell)
-        } else {
-            None
-        }
+        if line.number == k { line.cell } else { None }
     }
 
     // Writes cell number k into its line, and leaves every other line as it is.
     pub fn fill(&mut self, k: u32, cell: Cell)
         ensures { λ _. ⌜ now (self .exit) .table ≡ with-line (now (self .entry) .table) k cell ⌝ }
     {
-        self.table[k as usize % 16] = Line { number: k, cell };
+        self.table[k as usize % 16] = Line {
+            number: k,
+            cell: Some(cell),
+        };
     }
 }

@@ -10,7 +10,7 @@ ghost use Rattle.bytes.specs.Numbers.{overwritten};
 ghost use Rattle.cells.specs.Layout.{cell-width, cell-of, layout};
 ghost use Rattle.store.specs.Meaning.{fault-of, put-answer, after-put, got};
 ghost use Rattle.bases.specs.Bases.{base, most-cells};
-ghost use Rattle.bases.specs.Images.{image-sound, image-meaning, image-buffer, Laid, put-bytes};
+ghost use Rattle.bases.specs.Images.{image-sound, image-meaning, image-buffer, image-bytes, Laid, put-bytes};
 use super::Image;
 use crate::claims;
 use crate::claims::MOST_CELLS;
@@ -40,7 +40,8 @@ impl Image {
 
     // The bytes, with the layouts of the cells in front.
     pub fn into_bytes(self) -> Vec<u8>
-        ensures { λ r. ⌜ vec-items r ≡ image-buffer self ⌝ }
+        ensures bytes { λ r. ⌜ vec-items r ≡ image-buffer self ⌝ }
+        ensures laid { λ r. ⌜ ((handed : List ℕ) → Laid handed self → vec-items r ≡ image-bytes (image-meaning self .cells) handed) ⌝ }
     {
         let Image {
             bytes,

@@ -1,5 +1,5 @@
 -- The get is of the number that the put answered.
-use mathlib.Core.Path.{_∙_}
+use borrow.Author.Needs.{needs}
 use Rattle.stacks.proofs.Using.{ok-no-error, got-again, accepted-again}
 use Rattle.stacks.proofs.put_and_get.Needs as need
 
@@ -14,6 +14,6 @@ returns g c =
     record {
       stays = c .get .ensures .stays;
       answer = accepted-again was cell number (c .get .result) (put .answer) again;
-      after = c .get .ensures .same ∙ put .after;
+      after = search needs;
       untouched = ok-no-error (c .get .result) cell again;
     }
