@@ -1,13 +1,13 @@
 -- A put into a store that keeps its cells itself.
 use mathlib.Core.Path.{_≡_, sym, ap, _∙_}
 use mathlib.Core.List.{List, [], _∷_, _++_}
-use Prim.Native.Nat.{ℕ, _+_, _-_, _≤_}
+use Prim.Native.Nat.{ℕ, _+_, _-_}
 use native.Mathlib.Omega.{arith}
 use lib.ListN.{length}
 use Rattle.std.proofs.shelf.Lists.{length-push}
 use Rattle.std.specs.declared.option.Option.the-variants.{None}
 use Rattle.cells.specs.declared.Cell.{Cell}
-use Rattle.store.specs.Meaning.{fault-of, with-cells, after-put}
+use Rattle.store.specs.Meaning.{fault-of, after-put}
 use Rattle.store.proofs.Granting.{same-meaning, after-free}
 use Rattle.bases.specs.Bases.{base}
 

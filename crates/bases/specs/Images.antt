@@ -34,14 +34,15 @@ image-bytes cells handed = joined layout cells ++ drop (length cells * cell-widt
 abbrev pub Laid : (handed : List ℕ) → Image → Type 0
 Laid handed i = image-buffer i ≡ image-bytes (image-meaning i .cells) handed
 
--- its bytes begin with the layouts of its cells
+-- opened, and since then only its own calls: its bytes begin with the layouts of its cells
 abbrev pub image-sound : Image → Type 0
 image-sound i = Laid (image-buffer i) i
 
--- the bytes of a store of this meaning once a cell was put: of an accepted put the cell's place is written, and no other byte
+-- bytes with a cell written at a place, unless there is a fault
 abbrev pub written-unless : Option Fault → List ℕ → (at : ℕ) → Cell → List ℕ
 written-unless None bytes at c = overwritten bytes at (layout c)
 written-unless (Some fault) bytes at c = bytes
 
+-- the bytes that a put leaves: an accepted one writes the place of the new cell, and no other byte
 abbrev pub put-bytes : Meaning → List ℕ → Cell → List ℕ
 put-bytes m bytes c = written-unless (fault-of m 1) bytes (length (m .cells) * cell-width) c

@@ -1,6 +1,6 @@
 -- The lines of a cache stay as the store below has its cells.
 use mathlib.Core.Path.{_≡_, refl, sym, ap, subst, _∙_}
-use mathlib.Core.List.{List, [], _∷_, _++_}
+use mathlib.Core.List.{List, [], _∷_}
 use mathlib.Core.Bool.{Bool, true, false, cond}
 use Prim.Native.Nat.{ℕ, zero, suc, _%_}
 use borrow.Author.Tests.{eqb-true}

@@ -1,15 +1,11 @@
 // Any stack of layers is a store: functions over every store, and two stacks that are opened and used through them.
 ghost use mathlib.Core.Path.{_≡_};
 ghost use mathlib.Core.Bool.{true};
-ghost use mathlib.Core.List.{[]};
-ghost use Prim.Native.Nat.{_/_, min};
 ghost use Rattle.std.specs.Of.Vec.{vec-items, vec-len};
 ghost use Rattle.std.specs.Results.{isErr};
 ghost use Rattle.std.specs.Vec.{made};
 ghost use Rattle.store.specs.Meaning.{fault-of, unless, claimed, after-put};
-ghost use Rattle.bases.specs.Bases.{base, most-cells};
 ghost use Rattle.bases.specs.Images.{image-bytes};
-ghost use Rattle.layers.specs.Quotas.{limited};
 ghost use Rattle.stacks.specs.Copies.{after-copies};
 ghost use Rattle.stacks.specs.Stacks.{image-stack, table-stack};
 use bases::Image;

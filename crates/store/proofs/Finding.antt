@@ -10,8 +10,7 @@ use Rattle.std.specs.Options.{okOr}
 use Rattle.std.specs.Runs.{nth}
 use Rattle.std.specs.declared.option.Option.{Option}
 use Rattle.std.specs.declared.option.Option.the-variants.{Some, None}
-use Rattle.std.specs.declared.result.Result.{Result}
-use Rattle.std.specs.declared.result.Result.the-variants.{Ok, Err}
+use Rattle.std.specs.declared.result.Result.the-variants.{Ok}
 use Rattle.std.proofs.shelf.Maps.{nth-getD, nth-past}
 use Rattle.cells.specs.declared.Cell.{Cell}
 use Rattle.store.specs.declared.fault.Fault.{Fault}

@@ -2,13 +2,13 @@
 ghost use mathlib.Core.Path.{_≡_};
 ghost use mathlib.Core.Bool.{true};
 ghost use mathlib.Core.List.{List, []};
-ghost use Prim.Native.Nat.{ℕ, _+_, _*_, _/_, _<_, _≤_, min};
+ghost use Prim.Native.Nat.{ℕ, _+_, _*_, _/_, _≤_, min};
 ghost use lib.ListN.{length, drop};
 ghost use Rattle.std.specs.Of.Vec.{vec-items, vec-len};
 ghost use Rattle.std.specs.Results.{isErr};
 ghost use Rattle.bytes.specs.Numbers.{overwritten};
 ghost use Rattle.cells.specs.Layout.{cell-width, cell-of, layout};
-ghost use Rattle.store.specs.Meaning.{fault-of, put-answer, after-put, got};
+ghost use Rattle.store.specs.Meaning.{put-answer, after-put, got};
 ghost use Rattle.bases.specs.Bases.{base, most-cells};
 ghost use Rattle.bases.specs.Images.{image-sound, image-meaning, image-buffer, image-bytes, Laid, put-bytes};
 use super::Image;

@@ -1,8 +1,8 @@
 -- The parts are written one after another.
 use mathlib.Core.Path.{_≡_, refl, sym, ap, _∙_}
-use mathlib.Core.List.{List, [], _++_}
+use mathlib.Core.List.{[]}
 use native.Mathlib.Omega.{arith}
-use lib.ListN.{replicate, take}
+use lib.ListN.{replicate}
 use Rattle.std.proofs.shelf.Lists.{take-all}
 use Rattle.bytes.specs.Numbers.{bytes-of}
 use Rattle.bytes.proofs.Overwriting.{next-overwritten}
