@@ -26,7 +26,7 @@ faithful-same m n table lines same-store same-lines old =
 
 -- a put leaves every cell where it was
 put-faithful : (fault : Option Fault) (m : Meaning) (c : Cell) (table : List Line) → Faithful (m .cells) table → Faithful (put-unless fault m c .cells) table
-put-faithful None m c table old = λ i d some. cell-append (m .cells) (c ∷ []) _ d (old i d some)
+put-faithful None m c table old = record { line = λ i d some. cell-append (m .cells) (c ∷ []) _ d (old .line i d some) }
 put-faithful (Some fault) m c table old = old
 
 pub faithful-put : (m n : Meaning) (c : Cell) (table : List Line) → n ≡ after-put m c → Faithful (m .cells) table → Faithful (n .cells) table
@@ -43,7 +43,7 @@ set-keeps P (x ∷ xs) (suc j) (suc i) v d here old = set-keeps P xs j i v d her
 -- a line is filled with the cell that is there
 pub faithful-fill : (m n : Meaning) (table lines : List Line) (k : ℕ) (c : Cell) → cell-at (m .cells) k ≡ Some c → n ≡ m → lines ≡ with-line table k c → Faithful (m .cells) table → Faithful (n .cells) lines
 faithful-fill m n table lines k c there same-store filled old =
-    faithful-same m n (with-line table k c) lines same-store filled (λ i. set-keeps (Holds (m .cells)) table (k % 16) i _ empty-line (λ d same. there ∙ same) old)
+    faithful-same m n (with-line table k c) lines same-store filled (record { line = λ i. set-keeps (Holds (m .cells)) table (k % 16) i _ empty-line (λ d same. there ∙ same) (old .line) })
 
 getD-replicate-same : {X : Type 0} (n i : ℕ) (d : X) → getD (replicate n d) i d ≡ d
 getD-replicate-same zero i d = refl
@@ -56,7 +56,7 @@ none-holds o c none some = absurd (let z : _≡_ {A = ℕ} 0 1 = cc in omega ari
 -- empty lines hold nothing that could be wrong
 pub faithful-empty : (m : Meaning) (table : List Line) → table ≡ no-lines → Faithful (m .cells) table
 faithful-empty m table empty =
-    faithful-same m m no-lines table refl empty (λ i c some. none-holds _ c (ap (λ (l : Line). l .cell) (getD-replicate-same 16 i empty-line)) some)
+    faithful-same m m no-lines table refl empty (record { line = λ i c some. none-holds _ c (ap (λ (l : Line). l .cell) (getD-replicate-same 16 i empty-line)) some })
 
 held-by : (test : Bool) (line : Option Cell) (c : Cell) → Some c ≡ cond test line None → (test ≡ true) × (line ≡ Some c)
 held-by true line c hit = (refl, sym hit)
@@ -76,7 +76,7 @@ miss-fills (Some x) there table k c miss some = absurd (let z : _≡_ {A = ℕ} 
 -- a cell that the lines hold is the one that is there
 pub hit-there : (m : Meaning) (table : List Line) (k : ℕ) (c : Cell) → Some c ≡ held table k → Faithful (m .cells) table → Ok c ≡ got m k
 hit-there m table k c hit faithful =
-    there-got m k c (held-there (m .cells) (line-of table k .number) k (line-of table k .cell) c hit (faithful (k % 16)))
+    there-got m k c (held-there (m .cells) (line-of table k .number) k (line-of table k .cell) c hit (faithful .line (k % 16)))
 
 -- and a get of it leaves the lines
 pub hit-stays : (held there : Option Cell) (table : List Line) (k : ℕ) (c : Cell) → Some c ≡ held → table ≡ lines-by held there table k

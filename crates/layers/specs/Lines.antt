@@ -33,5 +33,6 @@ with-line table k c = set table (k % 16) (record { number = k; cell = Some c })
 abbrev pub Holds : List Cell → Line → Type 0
 Holds cells l = (c : Cell) → l .cell ≡ Some c → cell-at cells (l .number) ≡ Some c
 
-abbrev pub Faithful : List Cell → List Line → Type 0
-Faithful cells table = (i : ℕ) → Holds cells (getD table i empty-line)
+-- Every line is so.
+pub record Faithful (cells : List Cell) (table : List Line) : Type 0 where
+  pub line : (i : ℕ) → Holds cells (getD table i empty-line)
