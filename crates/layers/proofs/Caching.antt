@@ -7,10 +7,9 @@ use borrow.Author.Tests.{eqb-true}
 use lib.Dec.{eqb}
 use native.Mathlib.Omega.{arith}
 use lib.ListN.{getD, set, replicate}
-use Rattle.std.specs.Options.{okOr}
 use Rattle.std.specs.declared.option.Option.{Option}
 use Rattle.std.specs.declared.option.Option.the-variants.{Some, None}
-use Rattle.std.specs.declared.result.Result.the-variants.{Ok, Err}
+use Rattle.std.specs.declared.result.Result.the-variants.{Ok}
 use Rattle.cells.specs.declared.Cell.{Cell}
 use Rattle.store.specs.Meaning.{Meaning, cell-at, got, put-unless, after-put, fault-of}
 use Rattle.store.specs.declared.fault.Fault.{Fault}
@@ -77,14 +76,3 @@ miss-fills (Some x) there table k c miss some = absurd (let z : _≡_ {A = ℕ} 
 pub hit-there : (m : Meaning) (table : List Line) (k : ℕ) (c : Cell) → Some c ≡ held table k → Faithful (m .cells) table → Ok c ≡ got m k
 hit-there m table k c hit faithful =
     there-got m k c (held-there (m .cells) (line-of table k .number) k (line-of table k .cell) c hit (faithful .line (k % 16)))
-
--- and a get of it leaves the lines
-pub hit-stays : (held there : Option Cell) (table : List Line) (k : ℕ) (c : Cell) → Some c ≡ held → table ≡ lines-by held there table k
-hit-stays None there table k c hit = absurd (let z : _≡_ {A = ℕ} 0 1 = cc in omega arith)
-hit-stays (Some d) there table k c hit = refl
-
--- so does a get of a cell that is not there
-pub refused-stays : (held there : Option Cell) (table : List Line) (k : ℕ) (refused fault : Fault) → Err refused ≡ okOr there fault → table ≡ lines-by held there table k
-refused-stays None None table k refused fault e = refl
-refused-stays None (Some d) table k refused fault e = absurd (let z : _≡_ {A = ℕ} 0 1 = cc in omega arith)
-refused-stays (Some c) there table k refused fault e = refl
