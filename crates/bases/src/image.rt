@@ -7,6 +7,7 @@ ghost use Rattle.cells.specs.Layout.{cell-width};
 // What the calls promise names the struct, so they stand in a file of their own.
 pub mod calls;
 
+// The bytes that were handed in, of which the first `len` cells are its own.
 #[derive(Drop)]
 pub struct Image {
     bytes: Vec<u8>,

@@ -7,6 +7,7 @@ use cells::Cell;
 // What the calls promise names the struct, so they stand in a file of their own.
 pub mod calls;
 
+// Its cells, and how many it was opened for: memory for all of them is reserved.
 #[derive(Drop)]
 pub struct Table {
     cells: Vec<Cell>,

@@ -11,6 +11,7 @@ use cells::Cell;
 use store::Fault;
 use store::Store;
 
+// A store, and the lines that hold some of its cells.
 #[derive(Drop)]
 pub struct Cache<S: Store> {
     below: S,

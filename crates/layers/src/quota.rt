@@ -9,10 +9,10 @@ use cells::Cell;
 use store::Fault;
 use store::Store;
 
+// A store, and how many cells more are let into it.
 #[derive(Drop)]
 pub struct Quota<S: Store> {
     below: S,
-    // how many cells more it lets through
     left: u32,
 }
 
