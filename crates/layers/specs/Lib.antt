@@ -1,0 +1,3 @@
+pub mod Caches
+pub mod Lines
+pub mod Quotas
