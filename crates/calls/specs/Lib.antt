@@ -1,2 +1,3 @@
 pub mod Refusals
 pub mod Verdict
+pub mod Widths
