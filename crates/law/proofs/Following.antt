@@ -16,7 +16,7 @@ use Rattle.calls.specs.declared.call.Call.the-variants.{Enter, Withdraw, State,
 use Rattle.calls.specs.Verdict.{Beliefs, opening, latest-number, latest-belief}
 use Rattle.law.specs.Runs.{Reply, View, Run, rest, then, Change, noted, accepted}
 use Rattle.law.specs.Law.{entries, calls-of}
-use Rattle.law.proofs.Sorting.{Ordered, Below, Sorted, SameOps, without-entered, all-entered, length-entered, length-without, entered-last, not-before, sorted-entered, sorted-kept}
+use Rattle.law.proofs.Sorting.{TimeLaws, Below, Sorted, SameOps, without-entered, all-entered, length-entered, length-without, entered-last, not-before, sorted-entered, sorted-kept}
 use Rattle.law.proofs.Stepping.{Makes, by-step}
 
 pub latest-push : {E T : Type 0} (bs : Beliefs E T) (b : Belief E T) → latest-belief (bs ++ (b ∷ [])) ≡ b
@@ -65,14 +65,14 @@ module _ {E T S : Type 0} (k : Kinds E T S) where
   proper-weaker : (m n : ℕ) → m ≤ n → (b : Belief E T) → Proper m b → Proper n b
   proper-weaker m n l b h = (h .0, all-weaker (λ o. o .number < m) (λ o. o .number < n) (λ o q. omega arith) b (h .1), omega (arith, h .2))
 
-  module _ (order : Ordered (k .upto)) where
+  module _ (laws : TimeLaws (k .upto)) where
     makes-proper : (bs : Beliefs E T) (c : Call E T) (b : Belief E T) → Sound bs → Makes k bs c b → Proper (length bs + 1) b
     makes-proper bs (Enter t e) b h m =
         let o : Operation E T = record { number = length bs; time = t; effect = e } in
         let p = latest-proper bs h in
         let q = proper-weaker (length bs) (length bs + 1) (omega arith) (latest-belief bs) p in
         subst (Proper (length bs + 1)) (sym m) (
-          sorted-entered k order o (latest-belief bs) (p .0),
+          sorted-entered k laws o (latest-belief bs) (p .0),
           all-entered k (λ x. x .number < length bs + 1) o (latest-belief bs) (omega arith) (q .1),
           omega (arith, length-entered k o (latest-belief bs), p .2),
         )
@@ -138,7 +138,7 @@ module _ {E T S : Type 0} (k : Kinds E T S) where
   before-none o (x ∷ p) [] s h l = absurd s
   before-none o (x ∷ p) (y ∷ c) s h l = (not-before k o y (subst (λ t. k .upto t (o .time) ≡ true) (s .0 .0) (h .0)) (l .0), before-none o p c (s .1) (h .1) (l .1))
 
-  module _ (order : Ordered (k .upto)) where
+  module _ (laws : TimeLaws (k .upto)) where
     -- A ledger whose latest belief has the operations p, and that then accepted just the entries of q.
     pub replayed : (hs : List (Change E T)) (p q : Belief E T) (bs ds : Beliefs E T) → Sound bs → Sorted (k .upto) (p ++ q) → SameOps p (latest-belief bs) → calls-of hs ≡ entries q → Follows bs hs ds → SameOps (p ++ q) (latest-belief ds)
     replayed [] p [] bs ds h o s e f = subst (λ z. SameOps z (latest-belief ds)) (sym (append-nil p)) (subst (λ z. SameOps p (latest-belief z)) (sym f) s)
@@ -157,4 +157,4 @@ module _ {E T S : Type 0} (k : Kinds E T S) where
         in
         let regroup : (p ++ (x ∷ [])) ++ q ≡ p ++ (x ∷ q) = append-assoc p (x ∷ []) q in
         subst (λ z. SameOps z (latest-belief ds)) regroup
-        (replayed hs (p ++ (x ∷ [])) q cs ds (sound-more order bs (y .call) (f .0) h (f .3) (f .2)) (subst (Sorted (k .upto)) (sym regroup) o) same others (f .4))
+        (replayed hs (p ++ (x ∷ [])) q cs ds (sound-more laws bs (y .call) (f .0) h (f .3) (f .2)) (subst (Sorted (k .upto)) (sym regroup) o) same others (f .4))

@@ -23,7 +23,7 @@ use Rattle.calls.specs.Verdict.{Beliefs, opening, latest-number, latest-belief,
 use Rattle.law.specs.Runs.{Reply, View, opened, Step, Run, rest, then, Change, noted, accepted}
 use Rattle.law.specs.Law.{Alike, Promise, Continues}
 use Rattle.law.specs.Theorems.{Throughout, OneMore}
-use Rattle.law.proofs.Sorting.{Ordered, SameOps, same-ops, same-state, same-latest}
+use Rattle.law.proofs.Sorting.{TimeLaws, SameOps, same-ops, same-state, same-latest}
 use Rattle.law.proofs.Stepping.{Kept, Grown, by-step}
 use Rattle.law.proofs.Following.{Follows, followed, Proper, Sound, sound-opening, sound, undone, replayed}
 
@@ -70,23 +70,23 @@ module _ {E T S : Type 0} (k : Kinds E T S) where
       ∙ omega (arith, grown, adds-up r, sumBy-cons (λ (h : Change E T). h .cells) new hs))
       (by-step k c a u v s)
 
-  module _ (order : Ordered (k .upto)) where
+  module _ (laws : TimeLaws (k .upto)) where
     -- The promise of every run from the opening.
     pub promised : {m : Meaning} {cs : List (Call E T)} {xs : List (Reply S T)} {v : View E T} → Run k cs xs (opened m) v → Promise k m cs xs v
     promised {cs = cs} {xs = xs} {v = v} r =
         let bs = v .beliefs in
         let f = followed k r in
-        let beliefs = sound k order (accepted cs xs) opening bs (sound-opening k) f in
+        let beliefs = sound k laws (accepted cs xs) opening bs (sound-opening k) f in
         record {
           reference = r;
           replays = λ b l {cs′ = cs′} {xs′ = xs′} {w = w} r′ e.
               let ds = w .beliefs in
               let f′ = followed k r′ in
-              let some = sound k order (accepted cs′ xs′) opening ds (sound-opening k) f′ .some in
+              let some = sound k laws (accepted cs′ xs′) opening ds (sound-opening k) f′ .some in
               let proper = all-getD (Proper k (length bs)) bs b [] l (beliefs .proper) in
-              alike bs b ds (latest-number ds) l (omega arith) (replayed k order (accepted cs′ xs′) [] (getD bs b []) opening ds (sound-opening k) (proper .0) tt e f′);
+              alike bs b ds (latest-number ds) l (omega arith) (replayed k laws (accepted cs′ xs′) [] (getD bs b []) opening ds (sound-opening k) (proper .0) tt e f′);
           undoes = λ t e n n′ x x′ earlier later split.
-              let u = undone k order t e n n′ x x′ earlier later opening bs (sound-opening k) (subst (λ z. Follows k opening z bs) split f) in (
+              let u = undone k laws t e n n′ x x′ earlier later opening bs (sound-opening k) (subst (λ z. Follows k opening z bs) split f) in (
                 alike bs n′ bs (n - 1) (u .0) (u .1) (subst (SameOps (getD bs n′ [])) (u .2) (same-ops (getD bs n′ []))),
                 λ t′. asked-found bs n′ (λ z. latest k z t′) (u .0) ∙ ap (λ z. Ok (latest k z t′)) (u .2) ∙ sym (asked-found bs (n - 1) (λ z. latest k z t′) (u .1)),
               );
@@ -110,13 +110,13 @@ module _ {E T S : Type 0} (k : Kinds E T S) where
   run-split (suc n) {u = u} rest = (u, rest, rest)
   run-split (suc n) (then s r) = let p = run-split n r in (p .0, then s (p .1), p .2)
 
-  module _ (order : Ordered (k .upto)) where
+  module _ (laws : TimeLaws (k .upto)) where
     pub throughout : {m : Meaning} {cs : List (Call E T)} {xs : List (Reply S T)} {v : View E T} → Run k cs xs (opened m) v → Throughout k m cs xs v
-    throughout r = λ n. let p = run-split n r in (p .0, promised order (p .1), p .2)
+    throughout r = λ n. let p = run-split n r in (p .0, promised laws (p .1), p .2)
 
     -- Whatever came before, the calls of a run keep the promise.
     pub continues : {ds : List (Call E T)} {ys : List (Reply S T)} {v w : View E T} → Run k ds ys v w → Continues k v ds ys w
-    continues r = λ m cs xs h. promised order (run-append (h .reference) r)
+    continues r = λ m cs xs h. promised laws (run-append (h .reference) r)
 
     -- So does one call more.
     pub one-more : OneMore k

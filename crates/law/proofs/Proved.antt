@@ -11,14 +11,14 @@ use Rattle.store.specs.Meaning.{Meaning}
 use Rattle.law.specs.Runs.{Reply, View, opened, Run, accepted}
 use Rattle.law.specs.Law.{Promise}
 use Rattle.law.specs.Theorems.{EveryRun, Throughout, Seconds, NextFits}
-use Rattle.law.proofs.Sorting.{Ordered}
+use Rattle.law.proofs.Sorting.{TimeLaws}
 use Rattle.law.proofs.Following.{followed, Proper, Sound, sound-opening, sound}
 use Rattle.law.proofs.Repeating.{second}
 use Rattle.law.proofs.Fitting.{fits-step}
 
-module _ {E T S : Type 0} (k : Kinds E T S) (order : Ordered (k .upto)) where
+module _ {E T S : Type 0} (k : Kinds E T S) (laws : TimeLaws (k .upto)) where
   sound-run : {m : Meaning} {cs : List (Call E T)} {xs : List (Reply S T)} {v : View E T} → Run k cs xs (opened m) v → Sound k (v .beliefs)
-  sound-run {cs = cs} {xs = xs} {v = v} r = sound k order (accepted cs xs) opening (v .beliefs) (sound-opening k) (followed k r)
+  sound-run {cs = cs} {xs = xs} {v = v} r = sound k laws (accepted cs xs) opening (v .beliefs) (sound-opening k) (followed k r)
 
   pub seconds : EveryRun k (Seconds k)
   seconds m cs xs v r b l =

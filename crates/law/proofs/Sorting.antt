@@ -18,7 +18,7 @@ use Rattle.reference.specs.declared.Operation.{Operation}
 use Rattle.reference.specs.Beliefs.{Kinds, Belief, before, entered, without, until, state, latest}
 
 -- What the law needs of a kind of time.
-pub record Ordered {T : Type 0} (upto : T → T → Bool) : Type 0 where
+pub record TimeLaws {T : Type 0} (upto : T → T → Bool) : Type 0 where
   pub total : (a b : T) → (upto a b || upto b a) ≡ true
   pub transitive : (a b c : T) → upto a b ≡ true → upto b c ≡ true → upto a c ≡ true
 
@@ -85,13 +85,13 @@ module _ {E T S : Type 0} (k : Kinds E T S) where
   pub not-before : (o p : Operation E T) → k .upto (p .time) (o .time) ≡ true → p .number < o .number → before k o p ≡ false
   not-before o p upto less = or-from (not (k .upto (p .time) (o .time))) _ (not-from-true _ upto) (and-right (k .upto (o .time) (p .time)) _ (le-ltb (o .number) (p .number) (omega arith)))
 
-  module _ (order : Ordered (k .upto)) where
+  module _ (laws : TimeLaws (k .upto)) where
     upto-before : (o p : Operation E T) → before k o p ≡ true → k .upto (o .time) (p .time) ≡ true
     upto-before o p h =
         let op = k .upto (o .time) (p .time) in
         let po = k .upto (p .time) (o .time) in
         ⊎-elim
-        (λ later. ⊎-elim (λ y. y) (λ y. absurd (both-ways po (not-true po later) y)) (or-cases op po (order .total (o .time) (p .time))))
+        (λ later. ⊎-elim (λ y. y) (λ y. absurd (both-ways po (not-true po later) y)) (or-cases op po (laws .total (o .time) (p .time))))
         (λ both. and-parts op _ both .0)
         (or-cases (not po) _ h)
 
@@ -101,7 +101,7 @@ module _ {E T S : Type 0} (k : Kinds E T S) where
         cond-both (before k o p) _ _ (Sorted (k .upto))
         (λ y.
         let op = upto-before o p y in
-        ((op, all-weaker (λ q. k .upto (p .time) (q .time) ≡ true) (λ q. k .upto (o .time) (q .time) ≡ true) (λ q pq. order .transitive _ _ _ op pq) ps (h .0)), h))
+        ((op, all-weaker (λ q. k .upto (p .time) (q .time) ≡ true) (λ q. k .upto (o .time) (q .time) ≡ true) (λ q pq. laws .transitive _ _ _ op pq) ps (h .0)), h))
         (λ n. (all-entered (λ q. k .upto (p .time) (q .time) ≡ true) o ps (not-false _ (or-parts (not (k .upto (p .time) (o .time))) _ n .0)) (h .0), sorted-entered o ps (h .1)))
 
   pub sorted-kept : (test : Operation E T → Bool) (b : Belief E T) → Sorted (k .upto) b → Sorted (k .upto) (kept-by test b)
