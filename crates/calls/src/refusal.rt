@@ -34,7 +34,7 @@ impl Refusal {
 pub impl From<Fault> for Refusal as RefusalFromFault {
     ghost converts = { λ fault r. r ≡ Store fault };
 
-    fn from(fault: Fault) -> Refusal {
-        Refusal::Store(fault)
+    fn from(cause: Fault) -> Refusal {
+        Refusal::Store(cause)
     }
 }
