@@ -1,18 +1,16 @@
 -- Every refusal of a ledger has a place of 16 bits.
 use mathlib.Core.Path.{_≡_, subst}
-use mathlib.Core.Bool.{cond}
 use Prim.Native.Nat.{ℕ, _<_, _≤_, _^_}
 use native.Mathlib.Omega.{arith}
 use lib.Dec.{ltb}
 use lib.ListN.{length}
 use Rattle.std.specs.declared.option.Option.{Option}
-use Rattle.std.specs.declared.option.Option.the-variants.{Some, None}
 use Rattle.std.specs.declared.result.Result.{Result}
 use Rattle.std.specs.declared.result.Result.the-variants.{Ok, Err}
 use Rattle.std.proofs.shelf.Tests.{cond-both, ltb-true}
 use Rattle.reference.specs.Beliefs.{Kinds, Belief, state, latest, count}
 use Rattle.store.specs.declared.fault.Fault.{Fault}
-use Rattle.store.specs.Meaning.{Meaning, claimed, unless, fault-of}
+use Rattle.store.specs.Meaning.{Meaning, claimed, unless}
 use Rattle.calls.specs.declared.call.Call.{Call}
 use Rattle.calls.specs.declared.call.Call.the-variants.{Enter, Withdraw, State, Latest, Count}
 use Rattle.calls.specs.declared.answer.Answer.{Answer}

@@ -1,35 +1,28 @@
 -- Every run of a ledger just opened keeps the promise, and so does every run that goes on from one.
-use mathlib.Core.Path.{_≡_, refl, sym, ap, subst, _∙_}
+use mathlib.Core.Path.{_≡_, sym, ap, subst, _∙_}
 use mathlib.Core.List.{List, [], _∷_, _++_}
 use mathlib.Core.Logic.{⊎-elim}
 use Prim.Native.Nat.{ℕ, zero, suc, _+_, _-_, _<_, _≤_}
 use native.Mathlib.Omega.{arith}
-use lib.Dec.{ltb}
 use lib.ListN.{length, getD, take, drop}
-use Rattle.std.specs.declared.result.Result.{Result}
-use Rattle.std.specs.declared.result.Result.the-variants.{Ok, Err}
+use Rattle.std.specs.declared.result.Result.the-variants.{Ok}
 use Rattle.std.specs.Options as options
 use Rattle.std.specs.Results as results
 use Rattle.std.specs.shelf.Lists.{All, sumBy}
 use Rattle.std.proofs.shelf.Lists.{length-append, take-more}
 use Rattle.std.proofs.shelf.Elements.{all-getD, length-each}
 use Rattle.std.proofs.shelf.Sums.{sumBy-cons}
-use Rattle.std.proofs.shelf.Tests.{cond-true, lt-ltb}
 use Rattle.store.specs.Meaning.{Meaning}
 use Rattle.reference.specs.Beliefs.{Kinds, Belief, state, latest, count}
 use Rattle.calls.specs.declared.call.Call.{Call}
-use Rattle.calls.specs.declared.refusal.Refusal.{Refusal}
-use Rattle.calls.specs.Verdict.{Beliefs, opening, latest-number, latest-belief, asked, latest-of, claim-of}
+use Rattle.calls.specs.Verdict.{Beliefs, opening, latest-number, claim-of}
+use Rattle.calls.proofs.Deciding.{asked-found}
 use Rattle.law.specs.Runs.{Reply, View, opened, Step, Run, rest, then, Change, noted, accepted}
 use Rattle.law.specs.Law.{Alike, Promise, Continues}
 use Rattle.law.specs.Theorems.{Throughout, OneMore}
 use Rattle.law.proofs.Sorting.{TimeLaws, SameOps, same-ops, same-state, same-latest}
-use Rattle.law.proofs.Stepping.{Kept, Grown, by-step}
-use Rattle.law.proofs.Following.{Follows, followed, Proper, Sound, sound-opening, sound, undone, replayed}
-
--- what is shown of a belief that there is
-asked-found : {A E T : Type 0} (bs : Beliefs E T) (b : ℕ) (show : Belief E T → A) → b < length bs → asked bs b show ≡ Ok (show (getD bs b []))
-asked-found bs b show l = cond-true (ltb b (length bs)) _ _ (lt-ltb b (length bs) l)
+use Rattle.law.proofs.Stepping.{by-step}
+use Rattle.law.proofs.Following.{Follows, followed, Proper, sound-opening, sound, undone, replayed}
 
 module _ {E T S : Type 0} (k : Kinds E T S) where
   alike : (bs : Beliefs E T) (b : ℕ) (bs′ : Beliefs E T) (b′ : ℕ) → b < length bs → b′ < length bs′ → SameOps (getD bs b []) (getD bs′ b′ []) → Alike k bs b bs′ b′

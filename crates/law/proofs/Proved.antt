@@ -1,6 +1,5 @@
 -- The theorems of every run from an opening.
 use mathlib.Core.List.{List, []}
-use Prim.Native.Nat.{ℕ, _<_, _≤_}
 use native.Mathlib.Omega.{arith}
 use lib.ListN.{length, getD}
 use Rattle.std.proofs.shelf.Elements.{all-getD}
@@ -9,8 +8,7 @@ use Rattle.calls.specs.declared.call.Call.{Call}
 use Rattle.calls.specs.Verdict.{opening}
 use Rattle.store.specs.Meaning.{Meaning}
 use Rattle.law.specs.Runs.{Reply, View, opened, Run, accepted}
-use Rattle.law.specs.Law.{Promise}
-use Rattle.law.specs.Theorems.{EveryRun, Throughout, Seconds, NextFits}
+use Rattle.law.specs.Theorems.{EveryRun, Seconds, NextFits}
 use Rattle.law.proofs.Sorting.{TimeLaws}
 use Rattle.law.proofs.Following.{followed, Proper, Sound, sound-opening, sound}
 use Rattle.law.proofs.Repeating.{second}

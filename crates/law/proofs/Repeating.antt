@@ -1,25 +1,24 @@
 -- The second ledger exists: entries for which a store has room are all accepted, and every list of calls has a run.
 use mathlib.Core.Path.{_≡_, refl, sym, ap, subst, _∙_}
 use mathlib.Core.List.{List, [], _∷_, _++_}
-use Prim.Native.Nat.{ℕ, _+_, _-_, _<_, _≤_}
+use Prim.Native.Nat.{ℕ, _+_, _<_, _≤_}
 use native.Mathlib.Omega.{arith}
 use lib.Dec.{ltb}
 use lib.ListN.{length}
-use Rattle.std.specs.declared.option.Option.{Option}
 use Rattle.std.specs.declared.option.Option.the-variants.{None}
 use Rattle.std.specs.declared.result.Result.the-variants.{Ok}
 use Rattle.std.specs.shelf.Lists.{All, sumBy}
 use Rattle.std.proofs.shelf.Lists.{length-push, length-map}
 use Rattle.std.proofs.shelf.Sums.{sumBy-cons}
-use Rattle.std.proofs.shelf.Tests.{cond-true, cond-false, lt-ltb, le-ltb}
-use Rattle.store.specs.declared.fault.Fault.{Fault}
+use Rattle.std.proofs.shelf.Tests.{cond-false, le-ltb}
 use Rattle.store.specs.Meaning.{Meaning, fault-of, unless, claimed, with-cells}
 use Rattle.reference.specs.Beliefs.{Kinds, Belief, entered}
 use Rattle.calls.specs.declared.call.Call.{Call}
 use Rattle.calls.specs.declared.call.Call.the-variants.{Enter, Withdraw, State, Latest, Count}
 use Rattle.calls.specs.declared.answer.Answer.the-variants.{Changed}
 use Rattle.calls.specs.Verdict.{Beliefs, Verdict, keeps, makes, granted, latest-number, latest-belief, verdict, claim-of}
-use Rattle.law.specs.Runs.{Reply, View, opened, Grows, Outcome, Step, Run, rest, then, Change, noted, accepted}
+use Rattle.calls.proofs.Deciding.{not-full}
+use Rattle.law.specs.Runs.{Reply, View, opened, Grows, Outcome, Step, Run, rest, then, noted, accepted}
 use Rattle.law.specs.Law.{entries, calls-of}
 use Rattle.law.specs.Theorems.{Second}
 
@@ -49,7 +48,7 @@ module _ {E T S : Type 0} (k : Kinds E T S) where
   entry-made bs m t e room some allowance space =
       let b = entered k (record { number = length bs; time = t; effect = e }) (latest-belief bs) in
       let test : latest-number bs < 1023 = omega arith in
-      cond-true (ltb (latest-number bs) 1023) _ _ (lt-ltb _ _ test) ∙ ap (λ f. granted (unless f tt) b) (no-fault m 42 allowance space)
+      not-full bs _ test ∙ ap (λ f. granted (unless f tt) b) (no-fault m 42 allowance space)
 
   entry-grows : (c : Call E T) (cs : List (Call E T)) (a : Reply S T) (u v : View E T) → Entry c → Room (c ∷ cs) u → Step k c a u v → (b : Belief E T) × Grows b (claim-of c) a u v
   entry-grows (Enter t e) cs a u v i room s =
