@@ -9,7 +9,7 @@ use Rattle.std.specs.declared.option.Option.the-variants.{None}
 use Rattle.std.specs.declared.result.Result.the-variants.{Ok}
 use Rattle.std.specs.shelf.Lists.{All, sumBy}
 use Rattle.std.proofs.shelf.Lists.{length-push, length-map}
-use Rattle.std.proofs.shelf.Sums.{sumBy-cons}
+use Rattle.std.proofs.shelf.Sums.{sumBy-cons, sumBy-le}
 use Rattle.std.proofs.shelf.Tests.{cond-false, le-ltb}
 use Rattle.store.specs.Meaning.{Meaning, fault-of, unless, claimed, with-cells}
 use Rattle.reference.specs.Beliefs.{Kinds, Belief, entered}
@@ -32,6 +32,10 @@ Entry (Count b) = ⊥
 all-entries : {E T : Type 0} (b : Belief E T) → All Entry (entries b)
 all-entries [] = tt
 all-entries (o ∷ os) = (tt, all-entries os)
+
+claims-of-entries : {E T : Type 0} (b : Belief E T) → All (λ c. claim-of c ≤ 42) (entries b)
+claims-of-entries [] = tt
+claims-of-entries (o ∷ os) = (omega arith, claims-of-entries os)
 
 no-fault : (m : Meaning) (n : ℕ) → n ≤ m .allowance → n ≤ m .space → fault-of m n ≡ None
 no-fault m n l l′ = cond-false (ltb (m .allowance) n) _ _ (le-ltb _ _ l) ∙ cond-false (ltb (m .space) n) _ _ (le-ltb _ _ l′)
@@ -93,8 +97,11 @@ module _ {E T S : Type 0} (k : Kinds E T S) where
       (first .0 ∷ others .0, others .1, then (first .2) (others .2))
 
   pub second : (b : Belief E T) → length b ≤ 1023 → Second k b
-  second b few = λ m allowance space. record {
-    all = λ xs w r.
-        all-accepted r (all-entries b) (record { some = omega arith; beliefs = omega (arith, length-map b (λ o. Enter (o .time) (o .effect))); allowance = allowance; space = space });
-    some = some-run (entries b) (opened m);
+  second b few = record {
+    small = omega (arith, sumBy-le claim-of 42 (entries b) (claims-of-entries b), length-map b (λ o. Enter (o .time) (o .effect)));
+    accepted = λ m allowance space. record {
+      all = λ xs w r.
+          all-accepted r (all-entries b) (record { some = omega arith; beliefs = omega (arith, length-map b (λ o. Enter (o .time) (o .effect))); allowance = allowance; space = space });
+      some = some-run (entries b) (opened m);
+    };
   }

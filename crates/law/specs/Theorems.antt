@@ -17,7 +17,7 @@ module _ {E T S : Type 0} (k : Kinds E T S) where
   abbrev pub EveryRun : (Meaning → List (Call E T) → List (Reply S T) → View E T → Type 0) → Type 0
   EveryRun P = (m : Meaning) (cs : List (Call E T)) (xs : List (Reply S T)) (v : View E T) → Run k cs xs (opened m) v → P m cs xs v
 
-  -- the promise of the first n calls, of which the others are the rest
+  -- The first n calls kept the promise, and the others are a run from there.
   abbrev pub Throughout : Meaning → List (Call E T) → List (Reply S T) → View E T → Type 0
   Throughout m cs xs v = (n : ℕ) → (u : View E T) × Promise k m (take n cs) (take n xs) u × Run k (drop n cs) (drop n xs) u v
 
@@ -30,11 +30,12 @@ module _ {E T S : Type 0} (k : Kinds E T S) where
     pub all : (xs : List (Reply S T)) (w : View E T) → Run k cs xs (opened m) w → calls-of (accepted cs xs) ≡ cs
     pub some : (xs : List (Reply S T)) × (w : View E T) × Run k cs xs (opened m) w
 
-  -- Each belief has its second ledger, over every store that has room for what its entries claim.
-  abbrev pub Second : Belief E T → Type 0
-  Second belief =
-      (m : Meaning) → sumBy claim-of (entries belief) ≤ m .allowance → sumBy claim-of (entries belief) ≤ m .space → Accepts m (entries belief)
+  -- A belief has its second ledger: all its entries are accepted over every store that has room for what they claim, 42,966 cells at most.
+  pub record Second (belief : Belief E T) : Type 0 where
+    pub small : sumBy claim-of (entries belief) ≤ 42966
+    pub accepted : (m : Meaning) → sumBy claim-of (entries belief) ≤ m .allowance → sumBy claim-of (entries belief) ≤ m .space → Accepts m (entries belief)
 
+  -- each belief has its second ledger
   abbrev pub Seconds : Meaning → List (Call E T) → List (Reply S T) → View E T → Type 0
   Seconds m cs xs v = (b : ℕ) → b < length (v .beliefs) → Second (getD (v .beliefs) b [])
 
