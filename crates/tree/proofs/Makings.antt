@@ -16,8 +16,13 @@ use Rattle.tree.specs.declared.Side.{Side}
 use Rattle.tree.specs.declared.Parts.{Parts}
 use Rattle.tree.specs.declared.Node.{Node}
 use Rattle.tree.specs.Trees.{Tree, leaf, node, height, operations, side, node-of, parts-of, Kept}
-use Rattle.tree.specs.Making.{Made, Reads, Opens, level, evenness}
+use Rattle.store.specs.declared.Store as store
+use Rattle.tree.specs.Making.{Unchanged, Made, Reads, Opens}
 use Rattle.tree.proofs.Keeping.{same-answer, gains}
+
+-- one reading after another
+pub unchanged-then : {S : Type 0} (s : store.Ghosts S) (a b c : S) → Unchanged s a b → Unchanged s b c → Unchanged s a c
+unchanged-then s a b c one two = record { sound = two .sound; meaning = two .meaning ∙ one .meaning; buffer = two .buffer ∙ one .buffer }
 
 -- a store that gained nothing
 pub gains-none : (m n : Meaning) → n ≡ m → n ≡ with-cells m []
