@@ -44,9 +44,8 @@ module _ {E T S : Type 0} (k : Kinds E T S) where
     pub before-upto : (a b : Operation E T) → before k a b ≡ true → upto a b ≡ true
     before-upto a b h = ⊎-elim (later a b) (λ x. x .0) (before-cases a b h)
 
-    -- where the second is not after the first, neither is a third that is not after the second
-    not-later : (a b c : Operation E T) → (upto c a ≡ true → ⊥) → before k a c ≡ true
-    not-later a b c h = before-time a c (⊎-elim (λ x. absurd (h x)) (λ x. x) (cases-bool (upto c a)))
+    not-later : (a c : Operation E T) → (upto c a ≡ true → ⊥) → before k a c ≡ true
+    not-later a c h = before-time a c (⊎-elim (λ x. absurd (h x)) (λ x. x) (cases-bool (upto c a)))
 
     pub before-trans : (a b c : Operation E T) → before k a b ≡ true → before k b c ≡ true → before k a c ≡ true
     before-trans a b c h i =
@@ -54,12 +53,37 @@ module _ {E T S : Type 0} (k : Kinds E T S) where
         let bc = before-upto b c i in
         let chain = laws .transitive in
         ⊎-elim
-        (λ x. not-later a b c (λ y. both-ways (upto b a) x (chain (b .time) (c .time) (a .time) bc y)))
+        (λ x. not-later a c (λ y. both-ways (upto b a) x (chain (b .time) (c .time) (a .time) bc y)))
         (λ x. ⊎-elim
-        (λ y. not-later a b c (λ z. both-ways (upto c b) y (chain (c .time) (a .time) (b .time) z ab)))
+        (λ y. not-later a c (λ z. both-ways (upto c b) y (chain (c .time) (a .time) (b .time) z ab)))
         (λ y. before-number a c (chain (a .time) (b .time) (c .time) ab bc) (omega arith))
         (before-cases b c i))
         (before-cases a b h)
+
+    -- before what a third is not before, and what is not before a third
+    pub before-weaken : (a b c : Operation E T) → before k a b ≡ true → before k c b ≡ false → before k a c ≡ true
+    before-weaken a b c h n =
+        let p = not-before c b n in
+        let chain = laws .transitive in
+        ⊎-elim
+        (λ x. not-later a c (λ y. both-ways (upto b a) x (chain (b .time) (c .time) (a .time) (p .0) y)))
+        (λ x. ⊎-elim
+        (λ y. let low = p .1 (chain (c .time) (a .time) (b .time) y (x .0)) in before-number a c (chain (a .time) (b .time) (c .time) (x .0) (p .0)) (omega arith))
+        (before-time a c)
+        (cases-bool (upto c a)))
+        (before-cases a b h)
+
+    pub weaken-before : (a b c : Operation E T) → before k b a ≡ false → before k b c ≡ true → before k a c ≡ true
+    weaken-before a b c n h =
+        let p = not-before b a n in
+        let chain = laws .transitive in
+        ⊎-elim
+        (λ x. not-later a c (λ y. both-ways (upto c b) x (chain (c .time) (a .time) (b .time) y (p .0))))
+        (λ x. ⊎-elim
+        (λ y. let low = p .1 (chain (b .time) (c .time) (a .time) (x .0) y) in before-number a c (chain (a .time) (b .time) (c .time) (p .0) (x .0)) (omega arith))
+        (before-time a c)
+        (cases-bool (upto c a)))
+        (before-cases b c h)
 
     -- a number and a time, given as those of x
     pub not-at-before : (x o : Operation E T) → before k o x ≡ true → is-at k (x .number) (x .time) o ≡ false

@@ -9,8 +9,8 @@ use Rattle.std.proofs.shelf.Elements.{all-weaker, kept-by-append}
 use Rattle.std.proofs.shelf.Tests.{both-ways, not-from-true, not-from-false, or-from, or-left, cases-bool, cond-true, cond-false, cond-both}
 use Rattle.reference.specs.declared.Operation.{Operation}
 use Rattle.reference.specs.Beliefs.{Kinds, Belief, before, entered, until}
-use Rattle.order.specs.Order.{Sorted, is-at, has}
-use Rattle.order.proofs.Orders.{TimeLaws, before-upto, before-trans, not-at-before, not-at-after, at-neither}
+use Rattle.order.specs.Order.{Sorted, is-at, has, struck}
+use Rattle.order.proofs.Orders.{TimeLaws, before-upto, before-trans, before-weaken, weaken-before, not-at-before, not-at-after, at-neither}
 
 -- all of a list passes a test, or none does
 pub kept-all : {A : Type 0} (test : A → Bool) (xs : List A) → All (λ x. test x ≡ true) xs → kept-by test xs ≡ xs
@@ -79,11 +79,7 @@ module _ {E T S : Type 0} (k : Kinds E T S) where
       go true ih = refl
       go false ih = ih
 
-  -- a belief without what stands at a number and a time
-  abbrev pub struck : ℕ → T → Belief E T → Belief E T
-  struck n t belief = kept-by (λ o. not (is-at k n t o)) belief
-
-  struck-clear : (n : ℕ) (t : T) (l : Belief E T) → All (λ o. is-at k n t o ≡ false) l → struck n t l ≡ l
+  struck-clear : (n : ℕ) (t : T) (l : Belief E T) → All (λ o. is-at k n t o ≡ false) l → struck k n t l ≡ l
   struck-clear n t l h = kept-all (λ o. not (is-at k n t o)) l (all-weaker (λ o. is-at k n t o ≡ false) (λ o. not (is-at k n t o) ≡ true) (λ o. not-from-false (is-at k n t o)) l h)
 
   module _ (laws : TimeLaws (k .upto)) where
@@ -124,12 +120,19 @@ module _ {E T S : Type 0} (k : Kinds E T S) where
       pub has-here : before k p x ≡ false → before k x p ≡ false → has k (x .number) (x .time) (l ++ (p ∷ r)) ≡ true
       has-here h i = has-this (x .number) (x .time) l r p (at-neither k laws x p h i)
 
-      pub struck-right : before k p x ≡ true → struck (x .number) (x .time) (l ++ (p ∷ r)) ≡ l ++ (p ∷ struck (x .number) (x .time) r)
+      pub struck-right : before k p x ≡ true → struck k (x .number) (x .time) (l ++ (p ∷ r)) ≡ l ++ (p ∷ struck k (x .number) (x .time) r)
       struck-right h =
-          kept-by-append (λ o. not (is-at k (x .number) (x .time) o)) l (p ∷ r) ∙ ap (λ w. w ++ struck (x .number) (x .time) (p ∷ r)) (struck-clear (x .number) (x .time) l (clear-left h))
+          kept-by-append (λ o. not (is-at k (x .number) (x .time) o)) l (p ∷ r) ∙ ap (λ w. w ++ struck k (x .number) (x .time) (p ∷ r)) (struck-clear (x .number) (x .time) l (clear-left h))
           ∙ ap (λ w. l ++ w) (cond-true (not (is-at k (x .number) (x .time) p)) _ _ (not-from-false (is-at k (x .number) (x .time) p) (not-at-before k laws x p h)))
 
-      pub struck-left : before k x p ≡ true → struck (x .number) (x .time) (l ++ (p ∷ r)) ≡ struck (x .number) (x .time) l ++ (p ∷ r)
+      pub struck-left : before k x p ≡ true → struck k (x .number) (x .time) (l ++ (p ∷ r)) ≡ struck k (x .number) (x .time) l ++ (p ∷ r)
       struck-left h =
           kept-by-append (λ o. not (is-at k (x .number) (x .time) o)) l (p ∷ r)
-          ∙ ap (λ w. struck (x .number) (x .time) l ++ w) (struck-clear (x .number) (x .time) (p ∷ r) (not-at-after k laws x p h, clear-right h))
+          ∙ ap (λ w. struck k (x .number) (x .time) l ++ w) (struck-clear (x .number) (x .time) (p ∷ r) (not-at-after k laws x p h, clear-right h))
+
+      pub struck-here : before k p x ≡ false → before k x p ≡ false → struck k (x .number) (x .time) (l ++ (p ∷ r)) ≡ l ++ r
+      struck-here h i =
+          let left : All (λ o. is-at k (x .number) (x .time) o ≡ false) l = all-weaker (λ q. before k q p ≡ true) (λ q. is-at k (x .number) (x .time) q ≡ false) (λ q early. not-at-before k laws x q (before-weaken k laws q p x early i)) l (all-before l r p s) in
+          let right : All (λ o. is-at k (x .number) (x .time) o ≡ false) r = all-weaker (λ q. before k p q ≡ true) (λ q. is-at k (x .number) (x .time) q ≡ false) (λ q after. not-at-after k laws x q (weaken-before k laws x p q h after)) r (all-after l r p s) in
+          kept-by-append (λ o. not (is-at k (x .number) (x .time) o)) l (p ∷ r) ∙ ap (λ w. w ++ struck k (x .number) (x .time) (p ∷ r)) (struck-clear (x .number) (x .time) l left)
+          ∙ ap (λ w. l ++ w) (cond-false (not (is-at k (x .number) (x .time) p)) _ _ (not-from-true (is-at k (x .number) (x .time) p) (at-neither k laws x p h i)) ∙ struck-clear (x .number) (x .time) r right)

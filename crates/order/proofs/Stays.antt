@@ -11,9 +11,8 @@ use Rattle.std.proofs.shelf.Elements.{all-weaker, all-kept-by}
 use Rattle.std.proofs.shelf.Tests.{cond-both, both-ways, eqb-true, and-left, and-from, cases-bool, or-cases}
 use Rattle.reference.specs.declared.Operation.{Operation}
 use Rattle.reference.specs.Beliefs.{Kinds, Belief, before, entered, without}
-use Rattle.order.specs.Order.{Below, Timed, Sorted, is-at}
+use Rattle.order.specs.Order.{Below, Timed, Sorted, is-at, struck}
 use Rattle.order.proofs.Orders.{TimeLaws, before-number, before-trans, not-before}
-use Rattle.order.proofs.Splits.{struck}
 
 module _ {E T S : Type 0} (k : Kinds E T S) where
   pub all-entered : (P : Operation E T → Type 0) (new : Operation E T) (belief : Belief E T) → P new → All P belief → All P (entered k new belief)

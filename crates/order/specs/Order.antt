@@ -4,7 +4,7 @@ use mathlib.Core.Bool.{Bool, true, false, not, _&&_, _||_}
 use mathlib.Core.List.{[], _∷_}
 use Prim.Native.Nat.{ℕ, _<_}
 use lib.Dec.{eqb}
-use Rattle.std.specs.shelf.Lists.{All}
+use Rattle.std.specs.shelf.Lists.{All, kept-by}
 use Rattle.reference.specs.declared.Operation.{Operation}
 use Rattle.reference.specs.Beliefs.{Kinds, Belief, before}
 
@@ -30,3 +30,7 @@ module _ {E T S : Type 0} (k : Kinds E T S) where
   abbrev pub has : ℕ → T → Belief E T → Bool
   has n t [] = false
   has n t (o ∷ os) = is-at n t o || has n t os
+
+  -- the belief without what stands at this number and this time
+  abbrev pub struck : ℕ → T → Belief E T → Belief E T
+  struck n t belief = kept-by (λ o. not (is-at n t o)) belief

@@ -17,8 +17,12 @@ use Rattle.tree.specs.declared.Parts.{Parts}
 use Rattle.tree.specs.declared.Node.{Node}
 use Rattle.tree.specs.Trees.{Tree, leaf, node, height, operations, side, node-of, parts-of, Kept}
 use Rattle.store.specs.declared.Store as store
-use Rattle.tree.specs.Making.{Unchanged, Made, Reads, Opens}
+use Rattle.tree.specs.Making.{Unchanged, Made, Reads, Opens, level}
 use Rattle.tree.proofs.Keeping.{same-answer, gains}
+
+pub level-small : {E T : Type 0} (s : Tree E T) → level s ≤ 1
+level-small leaf = omega arith
+level-small (node k l o r) = omega arith
 
 -- one reading after another
 pub unchanged-then : {S : Type 0} (s : store.Ghosts S) (a b c : S) → Unchanged s a b → Unchanged s b c → Unchanged s a c
