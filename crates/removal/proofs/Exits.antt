@@ -1,6 +1,6 @@
 -- What a removal gives its caller: a standing tree, read from the cells.
 use mathlib.Core.Path.{_≡_, refl, sym, ap, subst, _∙_}
-use mathlib.Core.Bool.{Bool, true, false}
+use mathlib.Core.Bool.{Bool, true, false, not}
 use Prim.Native.Nat.{ℕ, _+_, _-_, _*_, _≤_, _<_, max}
 use native.Mathlib.Omega.{arith}
 use lib.ListN.{length}
@@ -11,12 +11,12 @@ use Rattle.std.proofs.shelf.Tests.{both-ways}
 use Rattle.effects.specs.declared.Effect as effect
 use Rattle.times.specs.declared.Time as time
 use Rattle.reference.specs.declared.Operation.{Operation}
-use Rattle.reference.specs.Beliefs.{kinds, without}
+use Rattle.reference.specs.Beliefs.{kinds}
 use Rattle.store.specs.declared.fault.Fault.{Fault}
 use Rattle.store.specs.Meaning.{Meaning, fault-of}
-use Rattle.order.specs.Order.{Timed, Sorted, struck}
+use Rattle.order.specs.Order.{Sorted, is-at, struck}
 use Rattle.order.proofs.Orders.{TimeLaws}
-use Rattle.order.proofs.Stays.{sorted-without, struck-without}
+use Rattle.order.proofs.Stays.{sorted-kept}
 use Rattle.tree.specs.declared.Side.{Side}
 use Rattle.tree.specs.Trees.{Tree, root, height, operations}
 use Rattle.tree.specs.Reading.{read-from, height-at}
@@ -32,6 +32,10 @@ use Rattle.removal.specs.Removing.{remove-cost, Shrunk, Takes-out, Removed}
 pub found-there : {F P : Type 0} (found there : Bool) → found ≡ true → _≡_ {A = Result Bool F} (Ok found) (Ok there) → there ≡ false → P
 found-there found there h i j = let z : _≡_ {A = Bool} true false = cc in absurd (both-ways true z refl)
 
+-- and what was not found is not
+pub not-there : {F P : Type 0} (found there : Bool) → found ≡ false → _≡_ {A = Result Bool F} (Ok found) (Ok there) → there ≡ true → P
+not-there found there h i j = let z : _≡_ {A = Bool} true false = cc in absurd (both-ways true z refl)
+
 module _ {E St T : Type 0} (e : effect.Ghosts E St) (t : time.Ghosts T) (effects-back : (f : E) → e .reads (e .words f) ≡ Some f) (times-back : (a : T) → t .reads (t .word a) ≡ Some a) (laws : TimeLaws (t .upto))
     (m m′ n : Meaning) (k : ℕ) (x : Operation E T) (same : m′ ≡ m) (stands : Standing e t (m .cells) k) where
   made-of : (answer : Result (Side E) Fault) → Takes-out e t m′ n k x answer → Room m (remove-cost (height (stands .tree))) →
@@ -39,18 +43,17 @@ module _ {E St T : Type 0} (e : effect.Ghosts E St) (t : time.Ghosts T) (effects
   made-of answer takes room = subst (λ w. Takes-out e t w n k x answer) same takes (stands .tree) (stands .at) (stands .kept) (stands .sorted) room
 
   removed-as : (side : Side E) (most : ℕ) → remove-cost (height (stands .tree)) ≤ most → Takes-out e t m′ n k x (Ok side) → Room m (remove-cost (height (stands .tree))) →
-      Timed (x .number) (x .time) (read-from e t (m .cells) k) → Removed e t m n k (x .number) (Ok (Some (side .number))) most
-  removed-as side most cost takes room timed =
+      Removed e t m n k (x .number) (x .time) (Ok (Some (side .number))) most
+  removed-as side most cost takes room =
       let made = made-of (Ok side) takes room in
       let reads = standing-reads e t effects-back times-back (m .cells) k stands in
-      let want = struck-without (kinds e t) laws (x .number) (x .time) (operations (stands .tree)) (subst (Timed (x .number) (x .time)) reads timed) in
       let fits = made .fits in
       record {
         new-root = root (made .tree);
         new = made .new;
         is = ap (λ s. Ok (Some (s .number))) (same-answer _ _ (made .good));
-        stands = record { tree = made .tree; at = refl; kept = made .kept; sorted = subst (Sorted (kinds e t)) (sym (made .reads ∙ want)) (sorted-without (kinds e t) (x .number) (operations (stands .tree)) (stands .sorted)) };
-        reads = reads-kept e t effects-back times-back (n .cells) (made .tree) (made .kept) ∙ made .reads ∙ want ∙ ap (without (x .number)) (sym reads);
+        stands = record { tree = made .tree; at = refl; kept = made .kept; sorted = subst (Sorted (kinds e t)) (sym (made .reads)) (sorted-kept (kinds e t) (λ o. not (is-at (kinds e t) (x .number) (x .time) o)) (operations (stands .tree)) (stands .sorted)) };
+        reads = reads-kept e t effects-back times-back (n .cells) (made .tree) (made .kept) ∙ made .reads ∙ ap (struck (kinds e t) (x .number) (x .time)) (sym reads);
         gained = made .gained;
         few = omega arith;
       }
@@ -63,13 +66,13 @@ module _ {E St T : Type 0} (e : effect.Ghosts E St) (t : time.Ghosts T) (effects
   ample : fault-of m 42 ≡ None → length (read-from e t (m .cells) k) ≤ 1023 → Room m 42 × (height (stands .tree) ≤ 14)
   ample claim few = (room-from m 42 claim, at-most-14 e t (m .cells) (stands .tree) (stands .kept) (subst (λ w. length w ≤ 1023) (standing-reads e t effects-back times-back (m .cells) k stands) few))
 
-  pub removed : (side : Side E) → Takes-out e t m′ n k x (Ok side) → Timed (x .number) (x .time) (read-from e t (m .cells) k) → fault-of m (remove-cost (height-at (m .cells) k)) ≡ None →
-      Removed e t m n k (x .number) (Ok (Some (side .number))) (remove-cost (height-at (m .cells) k))
-  removed side takes timed claim = removed-as side (remove-cost (height-at (m .cells) k)) (omega (arith, standing-height e t (m .cells) k stands)) takes (exact claim) timed
+  pub removed : (side : Side E) → Takes-out e t m′ n k x (Ok side) → fault-of m (remove-cost (height-at (m .cells) k)) ≡ None →
+      Removed e t m n k (x .number) (x .time) (Ok (Some (side .number))) (remove-cost (height-at (m .cells) k))
+  removed side takes claim = removed-as side (remove-cost (height-at (m .cells) k)) (omega (arith, standing-height e t (m .cells) k stands)) takes (exact claim)
 
-  pub removed-42 : (side : Side E) → Takes-out e t m′ n k x (Ok side) → Timed (x .number) (x .time) (read-from e t (m .cells) k) → fault-of m 42 ≡ None → length (read-from e t (m .cells) k) ≤ 1023 →
-      Removed e t m n k (x .number) (Ok (Some (side .number))) 42
-  removed-42 side takes timed claim few = let both = ample claim few in removed-as side 42 (omega arith) takes (omega arith, omega arith) timed
+  pub removed-42 : (side : Side E) → Takes-out e t m′ n k x (Ok side) → fault-of m 42 ≡ None → length (read-from e t (m .cells) k) ≤ 1023 →
+      Removed e t m n k (x .number) (x .time) (Ok (Some (side .number))) 42
+  removed-42 side takes claim few = let both = ample claim few in removed-as side 42 (omega arith) takes (omega arith, omega arith)
 
   pub not-refused : {P : Type 0} (f : Fault) → Takes-out e t m′ n k x (Err f) → fault-of m (remove-cost (height-at (m .cells) k)) ≡ None → P
   not-refused f takes claim = refused f _ (made-of (Err f) takes (exact claim) .good)

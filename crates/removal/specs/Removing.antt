@@ -9,7 +9,7 @@ use Rattle.std.specs.declared.result.Result.the-variants.{Ok}
 use Rattle.effects.specs.declared.Effect as effect
 use Rattle.times.specs.declared.Time as time
 use Rattle.reference.specs.declared.Operation.{Operation}
-use Rattle.reference.specs.Beliefs.{Belief, kinds, without}
+use Rattle.reference.specs.Beliefs.{Belief, kinds}
 use Rattle.store.specs.declared.fault.Fault.{Fault}
 use Rattle.store.specs.Meaning.{Meaning}
 use Rattle.order.specs.Order.{Sorted, struck}
@@ -53,6 +53,6 @@ module _ {E St T : Type 0} (e : effect.Ghosts E St) (t : time.Ghosts T) where
   Takes-out m n k x answer = (s : Tree E T) → root s ≡ k → Kept e t (m .cells) s → Sorted (kinds e t) (operations s) → Room m (remove-cost (height s)) →
       Made e t m n answer (struck (kinds e t) (x .number) (x .time) (operations s)) (Shrunk (height s))
 
-  -- the answer is the new root, which reads as the operations without that of the number
-  abbrev pub Removed : Meaning → Meaning → ℕ → ℕ → Result (Option ℕ) Fault → ℕ → Type 0
-  Removed m n k number answer most = Changed e t m n answer Some (without number (read-from e t (m .cells) k)) most
+  -- the answer is the new root, which reads as the operations without that of the number and the time
+  abbrev pub Removed : Meaning → Meaning → ℕ → ℕ → T → Result (Option ℕ) Fault → ℕ → Type 0
+  Removed m n k number at answer most = Changed e t m n answer Some (struck (kinds e t) number at (read-from e t (m .cells) k)) most

@@ -5,9 +5,9 @@ ghost use Prim.Native.Nat.{_≤_, _<_};
 ghost use lib.ListN.{length};
 ghost use Rattle.std.specs.declared.option.Option.the-variants.{None};
 ghost use Rattle.std.specs.declared.result.Result.the-variants.{Ok};
-ghost use Rattle.reference.specs.Beliefs.{kinds};
+ghost use Rattle.reference.specs.Beliefs.{kinds, without};
 ghost use Rattle.store.specs.Meaning.{fault-of};
-ghost use Rattle.order.specs.Order.{Timed, has};
+ghost use Rattle.order.specs.Order.{Timed, has, struck};
 ghost use Rattle.tree.specs.Trees.{Held};
 ghost use Rattle.tree.specs.Reading.{read-from, height-at};
 ghost use Rattle.tree.specs.Making.{Unchanged};
@@ -103,7 +103,8 @@ fn take_out<E: Effect, T: Time, S: Store>(
 }
 
 // Removes the operation of a number and a time and answers the new root, or `None` where it is not there: then nothing
-// has changed. With at most 1,023 operations in the tree a claim of 42 cells makes room for it.
+// has changed. With at most 1,023 operations in the tree a claim of 42 cells makes room for it. Where what has the number
+// has the time, the new root reads as the operations without that of the number.
 pub fn remove<E: Effect, T: Time, S: Store>(
     store: &mut S,
     root: u32,
@@ -114,8 +115,9 @@ pub fn remove<E: Effect, T: Time, S: Store>(
     requires stands { ⌜ Standing E·Effect T·Time (S·Store .meaning (now store) .cells) root ⌝ }
     ensures stays { λ _. ⌜ S·Store .sound (now (store .exit)) ⌝ }
     ensures absent { λ r. ⌜ (has (kinds E·Effect T·Time) number time (read-from E·Effect T·Time (S·Store .meaning (now (store .entry)) .cells) root) ≡ false → (r ≡ Ok None) × Unchanged S·Store (now (store .entry)) (now (store .exit))) ⌝ }
-    ensures removed { λ r. ⌜ (has (kinds E·Effect T·Time) number time (read-from E·Effect T·Time (S·Store .meaning (now (store .entry)) .cells) root) ≡ true → Timed number time (read-from E·Effect T·Time (S·Store .meaning (now (store .entry)) .cells) root) → fault-of (S·Store .meaning (now (store .entry))) (remove-cost (height-at (S·Store .meaning (now (store .entry)) .cells) root)) ≡ None → Removed E·Effect T·Time (S·Store .meaning (now (store .entry))) (S·Store .meaning (now (store .exit))) root number r (remove-cost (height-at (S·Store .meaning (now (store .entry)) .cells) root))) ⌝ }
-    ensures claimed { λ r. ⌜ (has (kinds E·Effect T·Time) number time (read-from E·Effect T·Time (S·Store .meaning (now (store .entry)) .cells) root) ≡ true → Timed number time (read-from E·Effect T·Time (S·Store .meaning (now (store .entry)) .cells) root) → fault-of (S·Store .meaning (now (store .entry))) 42 ≡ None → length (read-from E·Effect T·Time (S·Store .meaning (now (store .entry)) .cells) root) ≤ 1023 → Removed E·Effect T·Time (S·Store .meaning (now (store .entry))) (S·Store .meaning (now (store .exit))) root number r 42) ⌝ }
+    ensures removed { λ r. ⌜ (has (kinds E·Effect T·Time) number time (read-from E·Effect T·Time (S·Store .meaning (now (store .entry)) .cells) root) ≡ true → fault-of (S·Store .meaning (now (store .entry))) (remove-cost (height-at (S·Store .meaning (now (store .entry)) .cells) root)) ≡ None → Removed E·Effect T·Time (S·Store .meaning (now (store .entry))) (S·Store .meaning (now (store .exit))) root number time r (remove-cost (height-at (S·Store .meaning (now (store .entry)) .cells) root))) ⌝ }
+    ensures claimed { λ r. ⌜ (has (kinds E·Effect T·Time) number time (read-from E·Effect T·Time (S·Store .meaning (now (store .entry)) .cells) root) ≡ true → fault-of (S·Store .meaning (now (store .entry))) 42 ≡ None → length (read-from E·Effect T·Time (S·Store .meaning (now (store .entry)) .cells) root) ≤ 1023 → Removed E·Effect T·Time (S·Store .meaning (now (store .entry))) (S·Store .meaning (now (store .exit))) root number time r 42) ⌝ }
+    ensures named { λ _. ⌜ (Timed number time (read-from E·Effect T·Time (S·Store .meaning (now (store .entry)) .cells) root) → struck (kinds E·Effect T·Time) number time (read-from E·Effect T·Time (S·Store .meaning (now (store .entry)) .cells) root) ≡ without number (read-from E·Effect T·Time (S·Store .meaning (now (store .entry)) .cells) root)) ⌝ }
 {
     if !find::<E, T, S>(store, root, number, time)? {
         return Ok(None);
