@@ -3,9 +3,10 @@ use mathlib.Core.Path.{_≡_, refl, sym, ap, subst, _∙_}
 use mathlib.Core.Bool.{Bool, true, false, not, cond, _&&_, _||_}
 use mathlib.Core.List.{List, [], _∷_, _++_}
 use mathlib.Core.Logic.{⊎-elim}
-use Prim.Native.Nat.{ℕ, _≤_, _<_}
+use Prim.Native.Nat.{ℕ, _+_, _≤_, _<_}
 use native.Mathlib.Omega.{arith}
 use lib.Dec.{eqb}
+use lib.ListN.{length}
 use Rattle.std.specs.shelf.Lists.{All, kept-by}
 use Rattle.std.proofs.shelf.Elements.{all-weaker, all-kept-by}
 use Rattle.std.proofs.shelf.Tests.{cond-both, both-ways, eqb-true, and-left, and-from, cases-bool, or-cases}
@@ -18,6 +19,10 @@ module _ {E T S : Type 0} (k : Kinds E T S) where
   pub all-entered : (P : Operation E T → Type 0) (new : Operation E T) (belief : Belief E T) → P new → All P belief → All P (entered k new belief)
   all-entered P new [] p h = (p, tt)
   all-entered P new (o ∷ os) p h = cond-both (before k new o) _ _ (All P) (λ _. (p, h)) (λ _. (h .0, all-entered P new os p (h .1)))
+
+  pub length-entered : (new : Operation E T) (belief : Belief E T) → length (entered k new belief) ≡ length belief + 1
+  length-entered new [] = refl
+  length-entered new (o ∷ os) = cond-both (before k new o) _ _ (λ w. length w ≡ length (o ∷ os) + 1) (λ _. omega arith) (λ _. omega (arith, length-entered new os))
 
   pub sorted-kept : (test : Operation E T → Bool) (belief : Belief E T) → Sorted k belief → Sorted k (kept-by test belief)
   sorted-kept test [] h = tt
@@ -58,6 +63,10 @@ module _ {E T S : Type 0} (k : Kinds E T S) where
     struck-without n t (o ∷ os) h =
         ap (λ b. cond (not b) (o ∷ struck k n t os) (struck k n t os)) (at-number n t o (h .0))
         ∙ ap (λ w. cond (not (eqb (o .number) n)) (o ∷ w) w) (struck-without n t os (h .1))
+
+pub length-kept : {A : Type 0} (test : A → Bool) (xs : List A) → length (kept-by test xs) ≤ length xs
+length-kept test [] = omega arith
+length-kept test (x ∷ xs) = cond-both (test x) _ _ (λ w. length w ≤ length (x ∷ xs)) (λ _. omega (arith, length-kept test xs)) (λ _. omega (arith, length-kept test xs))
 
 pub below-without : {E T : Type 0} (m n : ℕ) (belief : Belief E T) → Below n belief → Below n (without m belief)
 below-without m n belief h = all-kept-by (λ o. not (eqb (o .number) m)) (λ o. o .number < n) belief h

@@ -17,7 +17,7 @@ use Rattle.times.specs.declared.Time as time
 use Rattle.reference.specs.declared.Operation.{Operation}
 use Rattle.cells.specs.declared.Cell.{Cell}
 use Rattle.store.specs.declared.fault.Fault.{Fault}
-use Rattle.store.specs.Meaning.{Meaning, cell-at, fault-of, with-cells}
+use Rattle.store.specs.Meaning.{Meaning, cell-at, fault-of, unless, claimed, with-cells}
 use Rattle.tree.specs.declared.Side.{Side}
 use Rattle.tree.specs.declared.Node.{Node}
 use Rattle.tree.specs.Trees.{Tree, leaf, node, root, height, side, cell-of, node-of, Kept}
@@ -66,6 +66,14 @@ accepted m k room = grind (arith, tells)
 
 pub room-from : (m : Meaning) (k : ℕ) → fault-of m k ≡ None → Room m k
 room-from m k h = grind (arith, tells)
+
+-- what an accepted claim tells
+unless-accepted : {A : Type 0} (fault : Option Fault) (x y : A) → Ok x ≡ unless fault y → fault ≡ None
+unless-accepted None x y h = refl
+unless-accepted (Some f) x y h = let z : _≡_ {A = ℕ} 0 1 = cc in absurd (omega arith)
+
+pub claim-accepted : (m : Meaning) (k : ℕ) (x : Unit {0}) → Ok x ≡ claimed m k → fault-of m k ≡ None
+claim-accepted m k x h = unless-accepted (fault-of m k) x tt h
 
 -- room that new cells leave
 pub room-left : (m n : Meaning) (new : List Cell) (k : ℕ) → n ≡ with-cells m new → Room m (length new + k) → Room n k

@@ -5,6 +5,13 @@ use cells::Cell;
 use store::Fault;
 use store::Store;
 
+// A store that knows how many gets and puts it had.
+pub trait Counts: Store {
+    fn gets(&self) -> u32;
+
+    fn puts(&self) -> u32;
+}
+
 #[derive(Drop)]
 pub struct Counting<S: Store> {
     below: S,
@@ -23,17 +30,6 @@ impl<S: Store> Counting<S> {
             gets: 0,
             puts: 0,
         }
-    }
-
-    // How many gets and how many puts there were since the last time that this was asked.
-    pub fn counted(&mut self) -> (u32, u32)
-        ensures answer { λ r. ⌜ r ≡ (now (self .entry) .gets, now (self .entry) .puts) ⌝ }
-        ensures below { λ _. ⌜ now (self .exit) .below ≡ now (self .entry) .below ⌝ }
-    {
-        let counts = (self.gets, self.puts);
-        self.gets = 0;
-        self.puts = 0;
-        counts
     }
 }
 
@@ -60,5 +56,15 @@ pub impl<S: Store> Store for Counting<S> as CountingStore {
     fn get(&mut self, k: u32) -> Result<Cell, Fault> {
         self.gets = self.gets.saturating_add(1);
         self.below.get(k)
+    }
+}
+
+pub impl<S: Store> Counts for Counting<S> as CountingCounts {
+    fn gets(&self) -> u32 {
+        self.gets
+    }
+
+    fn puts(&self) -> u32 {
+        self.puts
     }
 }

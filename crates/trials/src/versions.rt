@@ -13,6 +13,14 @@ use times::Time;
 // The most cells that a change takes.
 const CLAIM: u32 = 42;
 
+// The root of the version without operations, before number 1.
+pub fn first_root<E: Effect, T: Time, S: Store>(store: &S) -> u32
+    requires { ⌜ S·Store .sound (now store) ⌝ }
+    ensures { λ r. ⌜ Version E·Effect T·Time S·Store (now (store .entry)) r 1 ⌝ }
+{
+    0
+}
+
 pub fn enter<E: Effect, T: Time, S: Store>(
     store: &mut S,
     root: u32,
