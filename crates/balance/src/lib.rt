@@ -6,6 +6,7 @@ use reference::Operation;
 use store::Fault;
 use store::Store;
 use times::Time;
+use tree::Parts;
 use tree::Side;
 use tree::join;
 use tree::open;
@@ -57,10 +58,10 @@ fn part_middle<E: Effect, T: Time, S: Store>(
     ensures stays { λ _. ⌜ S·Store .sound (now (store .exit)) ⌝ }
     ensures parts { λ r. ⌜ Parts-middle E·Effect T·Time (S·Store .meaning (now (store .entry))) (S·Store .meaning (now (store .exit))) a p middle q d r ⌝ }
 {
-    let mid = open::<E, T, S>(store, middle)?;
-    let low = join(store, a, p, mid.left)?;
-    let high = join(store, mid.right, q, d)?;
-    join(store, low, mid.op, high)
+    let Parts { left, op, right } = open::<E, T, S>(store, middle)?;
+    let low = join(store, a, p, left)?;
+    let high = join(store, right, q, d)?;
+    join(store, low, op, high)
 }
 
 // Joins two sides of which the left is higher by two.

@@ -33,13 +33,13 @@ fn act_side<E: Effect>(total: Option<E>, from: E::State) -> E::State
 fn carry_from<E: Effect, T: Time, S: Store>(
     store: &mut S,
     k: u32,
-    at: T,
+    until: T,
     from: E::State,
 ) -> Result<E::State, Fault>
     requires sound { ⌜ S·Store .sound (now store) ⌝ }
     requires held { ⌜ Held E·Effect T·Time (S·Store .meaning (now store) .cells) k ⌝ }
     ensures same { λ _. ⌜ Unchanged S·Store (now (store .entry)) (now (store .exit)) ⌝ }
-    ensures carries { λ r. ⌜ Carries E·Effect T·Time (S·Store .meaning (now (store .entry))) k at from r ⌝ }
+    ensures carries { λ r. ⌜ Carries E·Effect T·Time (S·Store .meaning (now (store .entry))) k until from r ⌝ }
 {
     if k == 0 {
         return Ok(from);
@@ -50,12 +50,12 @@ fn carry_from<E: Effect, T: Time, S: Store>(
         right,
         ..
     } = read::<E, T, S>(store, k)?;
-    if op.time.not_after(at) {
+    if op.time.not_after(until) {
         let side = side_at::<E, T, S>(store, left)?;
         let before = act_side(side.total, from);
-        carry_from::<E, T, S>(store, right, at, op.effect.act(before))
+        carry_from::<E, T, S>(store, right, until, op.effect.act(before))
     } else {
-        carry_from::<E, T, S>(store, left, at, from)
+        carry_from::<E, T, S>(store, left, until, from)
     }
 }
 

@@ -1,5 +1,6 @@
 // The tree in the cells: reading its nodes, and joining an operation and two sides by one new cell.
 ghost use mathlib.Core.Path.{_≡_};
+ghost use Prim.Native.Nat.{_+_, _<_, max};
 ghost use Rattle.std.specs.declared.option.Option.the-variants.{Some};
 ghost use Rattle.std.specs.declared.result.Result.the-variants.{Ok};
 ghost use Rattle.tree.specs.Trees.{Tree, root, joined, side, cell-of, node-of, Kept};
@@ -119,8 +120,14 @@ pub fn open<E: Effect, T: Time, S: Store>(store: &mut S, k: u32) -> Result<Parts
     })
 }
 
-// Joins an operation and two sides: the only place where a cell is made. No height comes near the limit of `u32`,
-// since cells are numbered by it and sides have lower numbers.
+// The height over two sides. None comes near the limit of `u32`: cells are numbered by it, and sides have lower numbers.
+fn height_over(left: u32, right: u32) -> u32
+    ensures { λ r. ⌜ (max left right < 4294967295 → r ≡ max left right + 1) ⌝ }
+{
+    left.max(right).saturating_add(1)
+}
+
+// Joins an operation and two sides by one new cell: the only place where a cell is made.
 pub fn join<E: Effect, T: Time, S: Store>(
     store: &mut S,
     left: Side<E>,
@@ -131,7 +138,7 @@ pub fn join<E: Effect, T: Time, S: Store>(
     ensures stays { λ _. ⌜ S·Store .sound (now (store .exit)) ⌝ }
     ensures joined { λ r. ⌜ Joins E·Effect T·Time (S·Store .meaning (now (store .entry))) (S·Store .meaning (now (store .exit))) left op right r ⌝ }
 {
-    let height = left.height.max(right.height).saturating_add(1);
+    let height = height_over(left.height, right.height);
     let total = compose_sides(left.total, op.effect, right.total);
     let cell = Cell {
         time: op.time.to_word(),
