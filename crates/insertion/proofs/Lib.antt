@@ -1,0 +1,3 @@
+mod Growth
+mod Insertions
+mod Entries

@@ -1,0 +1,3 @@
+pub mod Stands
+mod Descents
+mod States

@@ -1,0 +1,3 @@
+mod Shrinking
+mod Removals
+mod Exits

@@ -1,0 +1,5 @@
+pub mod Keeping
+pub mod Joining
+pub mod Makings
+pub mod Readings
+pub mod Heights

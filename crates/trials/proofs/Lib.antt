@@ -1,0 +1,2 @@
+mod Shelving
+mod Going

@@ -1,0 +1,8 @@
+use Prim.Native.Nat.{_+_}
+use Rattle.counter.specs.contracts.kind.CounterEffect.the-impl.{ghosts as counters}
+use Rattle.times.specs.contracts.clock.kind.ClockTime.the-impl.{ghosts as clocks}
+use Rattle.trials.proofs.Going.{version-read}
+use Rattle.trials.proofs.trial.withdraw_and_compare.Needs as need
+
+pub returns : need.returns
+returns g c = version-read counters clocks (g .C·Store) (c .withdraw .last .store) (c .compare .last .store) (c .in-Continue-new .new) (c .args .next) (c .in-Continue-new .ensures tt) (c .compare .ensures)

@@ -1,0 +1,142 @@
+// Whole trials: many operations entered in one order of times, a third of them withdrawn, every version compared.
+ghost use mathlib.Core.Path.{_≡_};
+ghost use Prim.Native.Nat.{_+_, _≤_};
+ghost use Rattle.std.specs.Options.{Cases};
+ghost use Rattle.std.specs.Vec.{made};
+ghost use Rattle.counter.specs.contracts.kind.CounterEffect.the-impl.{ghosts as counters};
+ghost use Rattle.times.specs.contracts.clock.kind.ClockTime.the-impl.{ghosts as clocks};
+ghost use Rattle.trials.specs.Versions.{Version};
+use super::compare::compare;
+use super::counting::Counts;
+use super::plain::index_of;
+use super::plain::place_of;
+use super::trouble::Trouble;
+use super::trouble::TroubleFromFault;
+use super::trouble::TroubleFromRefused;
+use super::trouble::same;
+use super::versions::enter;
+use super::versions::first_root;
+use super::versions::withdraw;
+use counter::Counter;
+use counter::CounterEffect;
+use reference::Operation;
+use std::alloc::Global;
+use times::Clock;
+use times::ClockTime;
+
+// The order of the times in which a trial enters its operations.
+#[derive(Drop)]
+pub enum Times {
+    Ascending,
+    Descending,
+    Shuffled,
+}
+
+// When the operation of a number happened; four or more share a time.
+fn seconds_of(times: &Times, number: u32) -> u64 {
+    let n = u64::from(number);
+    match times {
+        Times::Ascending => n / 4,
+        Times::Descending => 1000u64.saturating_sub(n) / 4,
+        Times::Shuffled => n * 389 % 97,
+    }
+}
+
+// The operation of a number.
+fn operation(times: &Times, number: u32) -> Option<Operation<Counter, Clock>>
+    ensures { λ r. ⌜ Cases r (Unit {0}) (λ op. op .number ≡ number) ⌝ }
+{
+    let time = Clock::new(seconds_of(times, number))?;
+    let effect = Counter::new(10, number % 50, 900)?;
+    Some(Operation {
+        number,
+        time,
+        effect,
+    })
+}
+
+// Checks a change of a tree that is now so high, by what it took.
+fn took(height: u32, gets: u32, puts: u32, most_gets: u32, most_puts: u32) -> Result<(), Trouble> {
+    same(height <= 14)?;
+    same(gets <= most_gets)?;
+    same(puts <= most_puts)
+}
+
+// Enters an operation into the tree at a root and into the plain list, and compares the two.
+fn enter_and_compare<C: Counts>(
+    store: &mut C,
+    root: u32,
+    op: Operation<Counter, Clock>,
+    plain: &mut Vec<Operation<Counter, Clock>>,
+) -> Result<u32, Trouble>
+    requires version { ⌜ Version counters clocks C·Store (now store) root (op .number) ⌝ }
+    requires few { ⌜ op .number ≤ 1023 ⌝ }
+    ensures { λ r. ⌜ made r (λ k. Version counters clocks C·Store (now (store .exit)) k (op .number + 1)) ⌝ }
+{
+    let place = place_of(plain, op.time);
+    plain.insert(place, op)?;
+    let gets = store.gets();
+    let puts = store.puts();
+    let new = enter(store, root, op)?;
+    let gets = store.gets().saturating_sub(gets);
+    let puts = store.puts().saturating_sub(puts);
+    let seen = compare(store, new, 14, plain, 0)?;
+    same(seen.next == plain.len())?;
+    took(
+        seen.height,
+        gets,
+        puts,
+        3 * 14 + 6,
+        seen.height.saturating_add(3),
+    )?;
+    Ok(new)
+}
+
+// Withdraws the operation of a number from both, and compares the two. Numbers so far are below `next`.
+fn withdraw_and_compare<C: Counts>(
+    store: &mut C,
+    root: u32,
+    next: u32,
+    number: u32,
+    plain: &mut Vec<Operation<Counter, Clock>>,
+) -> Result<u32, Trouble>
+    requires version { ⌜ Version counters clocks C·Store (now store) root next ⌝ }
+    requires few { ⌜ next ≤ 1023 ⌝ }
+    ensures { λ r. ⌜ made r (λ k. Version counters clocks C·Store (now (store .exit)) k next) ⌝ }
+{
+    let i = index_of(plain, number).ok_or(Trouble::Differs)?;
+    let op = plain.remove(i);
+    let gets = store.gets();
+    let puts = store.puts();
+    let new = withdraw::<Counter, Clock, C>(store, root, next, number, op.time)?;
+    let gets = store.gets().saturating_sub(gets);
+    let puts = store.puts().saturating_sub(puts);
+    let seen = compare(store, new, 14, plain, 0)?;
+    same(seen.next == plain.len())?;
+    took(seen.height, gets, puts, 10 * 14, 3 * 14)?;
+    Ok(new)
+}
+
+// Enters operations 1 to `count`, and then withdraws every third of them.
+pub fn trial<C: Counts>(
+    heap: Global,
+    store: &mut C,
+    times: &Times,
+    count: u32,
+) -> Result<(), Trouble>
+    requires sound { ⌜ C·Store .sound (now store) ⌝ }
+    requires count { ⌜ 1 ≤ count ⌝ ∗ ⌜ count ≤ 1000 ⌝ }
+{
+    let mut plain: Vec<Operation<Counter, Clock>> = Vec::new(heap);
+    let mut root = first_root::<Counter, Clock, C>(store);
+    for number in 1..count {
+        let op = operation(times, number).ok_or(Trouble::Differs)?;
+        root = enter_and_compare(store, root, op, &mut plain)?;
+    }
+    for number in 1..count {
+        if number % 3 == 0 {
+            root = withdraw_and_compare(store, root, count, number, &mut plain)?;
+        }
+    }
+    Ok(())
+}
