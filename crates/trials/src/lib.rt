@@ -1,11 +1,11 @@
 // Trials of the tree: versions made in many orders, each compared with a plain sorted list, over a store that counts.
-pub mod compare;
-pub mod counting;
-pub mod plain;
-pub mod shelf;
-pub mod trial;
-pub mod trouble;
-pub mod versions;
+mod compare;
+mod counting;
+mod plain;
+mod shelf;
+mod trial;
+mod trouble;
+mod versions;
 
 #[cfg(test)]
 mod tests {

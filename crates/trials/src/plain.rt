@@ -3,6 +3,9 @@ ghost use Prim.Native.Nat.{_≤_, _<_};
 ghost use lib.ListN.{length};
 ghost use Rattle.std.specs.Options.{Cases};
 use counter::Counter;
+use counter::CounterEffect;
+use counter::Level;
+use effects::Effect;
 use reference::Operation;
 use times::Clock;
 
@@ -28,4 +31,26 @@ pub fn index_of(plain: &[Operation<Counter, Clock>], number: u32) -> Option<usiz
         }
     }
     None
+}
+
+// The start state carried through the operations that are not after a time.
+pub fn state_of(plain: &[Operation<Counter, Clock>], at: Clock) -> Level {
+    let mut state = Counter::start_state();
+    for op in plain {
+        if op.time.seconds() <= at.seconds() {
+            state = op.effect.act(state);
+        }
+    }
+    state
+}
+
+// The number of the last operation that is not after a time, 0 for none.
+pub fn last_of(plain: &[Operation<Counter, Clock>], at: Clock) -> u32 {
+    let mut last = 0;
+    for op in plain {
+        if op.time.seconds() <= at.seconds() {
+            last = op.number;
+        }
+    }
+    last
 }

@@ -5,11 +5,15 @@ ghost use Rattle.std.specs.Options.{Cases};
 ghost use Rattle.std.specs.Vec.{made};
 ghost use Rattle.counter.specs.contracts.kind.CounterEffect.the-impl.{ghosts as counters};
 ghost use Rattle.times.specs.contracts.clock.kind.ClockTime.the-impl.{ghosts as clocks};
+ghost use Rattle.tree.specs.Making.{Unchanged};
+ghost use Rattle.questions.specs.Standing.{Standing};
 ghost use Rattle.trials.specs.Versions.{Version};
 use super::compare::compare;
 use super::counting::Counts;
 use super::plain::index_of;
+use super::plain::last_of;
 use super::plain::place_of;
+use super::plain::state_of;
 use super::trouble::Trouble;
 use super::trouble::TroubleFromFault;
 use super::trouble::TroubleFromRefused;
@@ -19,6 +23,9 @@ use super::versions::first_root;
 use super::versions::withdraw;
 use counter::Counter;
 use counter::CounterEffect;
+use questions::find;
+use questions::latest_at;
+use questions::state_at;
 use reference::Operation;
 use std::alloc::Global;
 use times::Clock;
@@ -55,11 +62,36 @@ fn operation(times: &Times, number: u32) -> Option<Operation<Counter, Clock>>
     })
 }
 
-// Checks a change of a tree that is now so high, by what it took.
-fn took(height: u32, gets: u32, puts: u32, most_gets: u32, most_puts: u32) -> Result<(), Trouble> {
-    same(height <= 14)?;
-    same(gets <= most_gets)?;
-    same(puts <= most_puts)
+// Asks the tree at a root for the state and the latest at a time, and finds one operation: each answer against the plain
+// list's, and its gets against the height.
+fn ask_and_compare<C: Counts>(
+    store: &mut C,
+    root: u32,
+    height: u32,
+    number: u32,
+    at: Clock,
+    plain: &[Operation<Counter, Clock>],
+) -> Result<(), Trouble>
+    requires sound { ⌜ C·Store .sound (now store) ⌝ }
+    requires stands { ⌜ Standing counters clocks (C·Store .meaning (now store) .cells) root ⌝ }
+    ensures { λ _. ⌜ Unchanged C·Store (now (store .entry)) (now (store .exit)) ⌝ }
+{
+    let gets = store.gets();
+    let state = state_at::<Counter, Clock, C>(store, root, at)?;
+    same(state.hundredths() == state_of(plain, at).hundredths())?;
+    same(store.gets().saturating_sub(gets) <= height.saturating_mul(2))?;
+    let gets = store.gets();
+    let latest = latest_at::<Counter, Clock, C>(store, root, at)?;
+    let last = match latest {
+        Some(pair) => pair.0,
+        None => 0,
+    };
+    same(last == last_of(plain, at))?;
+    same(store.gets().saturating_sub(gets) <= height)?;
+    let gets = store.gets();
+    let found = find::<Counter, Clock, C>(store, root, number, at)?;
+    same(found == index_of(plain, number).is_some())?;
+    same(store.gets().saturating_sub(gets) <= height)
 }
 
 // Enters an operation into the tree at a root and into the plain list, and compares the two.
@@ -82,13 +114,9 @@ fn enter_and_compare<C: Counts>(
     let puts = store.puts().saturating_sub(puts);
     let seen = compare(store, new, 14, plain, 0)?;
     same(seen.next == plain.len())?;
-    took(
-        seen.height,
-        gets,
-        puts,
-        3 * 14 + 6,
-        seen.height.saturating_add(3),
-    )?;
+    same(gets <= seen.height.saturating_mul(3).saturating_add(6))?;
+    same(puts <= seen.height.saturating_add(3))?;
+    ask_and_compare(store, new, seen.height, op.number, op.time, plain)?;
     Ok(new)
 }
 
@@ -113,7 +141,10 @@ fn withdraw_and_compare<C: Counts>(
     let puts = store.puts().saturating_sub(puts);
     let seen = compare(store, new, 14, plain, 0)?;
     same(seen.next == plain.len())?;
-    took(seen.height, gets, puts, 10 * 14, 3 * 14)?;
+    let high = seen.height.saturating_add(1);
+    same(gets <= high.saturating_mul(10))?;
+    same(puts <= high.saturating_mul(3))?;
+    ask_and_compare(store, new, seen.height, number, op.time, plain)?;
     Ok(new)
 }
 
