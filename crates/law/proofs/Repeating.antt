@@ -11,6 +11,7 @@ use Rattle.std.specs.shelf.Lists.{All, sumBy}
 use Rattle.std.proofs.shelf.Lists.{length-push, length-map}
 use Rattle.std.proofs.shelf.Sums.{sumBy-cons, sumBy-le}
 use Rattle.std.proofs.shelf.Tests.{cond-false, le-ltb}
+use Rattle.store.proofs.Granting.{free-granted}
 use Rattle.store.specs.Meaning.{Meaning, fault-of, unless, claimed, with-cells}
 use Rattle.reference.specs.Beliefs.{Kinds, Belief, entered}
 use Rattle.calls.specs.declared.call.Call.{Call}
@@ -38,7 +39,7 @@ claims-of-entries [] = tt
 claims-of-entries (o ∷ os) = (omega arith, claims-of-entries os)
 
 no-fault : (m : Meaning) (n : ℕ) → n ≤ m .allowance → n ≤ m .space → fault-of m n ≡ None
-no-fault m n l l′ = cond-false (ltb (m .allowance) n) _ _ (le-ltb _ _ l) ∙ cond-false (ltb (m .space) n) _ _ (le-ltb _ _ l′)
+no-fault m n may can = free-granted m n (record { may = may; can = can })
 
 module _ {E T S : Type 0} (k : Kinds E T S) where
   -- room in a ledger and its store for all of the calls

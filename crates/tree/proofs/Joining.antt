@@ -16,7 +16,8 @@ use Rattle.store.specs.Meaning.{Meaning, with-cells}
 use Rattle.tree.specs.declared.Side.{Side}
 use Rattle.tree.specs.Trees.{Tree, node, height, operations, joined, side, cell-of, Kept}
 use Rattle.tree.specs.Making.{Room, Made, Sides, level, evenness}
-use Rattle.tree.proofs.Keeping.{cell-new, kept-more, root-in}
+use Rattle.store.proofs.Finding.{cell-last}
+use Rattle.tree.proofs.Keeping.{kept-more, root-in}
 
 module _ {E St T : Type 0} (e : effect.Ghosts E St) (t : time.Ghosts T) where
   -- what is known of a new root over two sides
@@ -35,7 +36,7 @@ module _ {E St T : Type 0} (e : effect.Ghosts E St) (t : time.Ghosts T) where
         tree = node (length (m .cells) + 1) l o r;
         new = c ∷ [];
         good = refl;
-        kept = (cell-new (m .cells) c, omega arith, omega arith, low, high, kept-more e t (m .cells) (c ∷ []) l hl, kept-more e t (m .cells) (c ∷ []) r hr);
+        kept = (cell-last (m .cells) c, omega arith, omega arith, low, high, kept-more e t (m .cells) (c ∷ []) l hl, kept-more e t (m .cells) (c ∷ []) r hr);
         reads = refl;
         gained = refl;
         fits = (refl, refl, refl);

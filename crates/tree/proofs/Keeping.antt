@@ -2,7 +2,6 @@
 use mathlib.Core.Path.{_≡_, refl, sym, ap, _∙_}
 use mathlib.Core.List.{List, [], _∷_, _++_, append-assoc}
 use Prim.Native.Nat.{ℕ, zero, suc, _+_, _-_, _≤_, _<_, max}
-use native.Mathlib.Numerals.{add-one}
 use native.Mathlib.Omega.{arith}
 use lib.ListN.{length, length-append}
 use lib.Dec.{ltb}
@@ -11,13 +10,14 @@ use Rattle.std.specs.declared.option.Option.{Option}
 use Rattle.std.specs.declared.option.Option.the-variants.{Some, None}
 use Rattle.std.specs.declared.result.Result.{Result}
 use Rattle.std.specs.declared.result.Result.the-variants.{Ok, Err}
-use Rattle.std.specs.Runs.{nth}
 use Rattle.effects.specs.declared.Effect as effect
 use Rattle.times.specs.declared.Time as time
 use Rattle.reference.specs.declared.Operation.{Operation}
 use Rattle.cells.specs.declared.Cell.{Cell}
 use Rattle.store.specs.declared.fault.Fault.{Fault}
 use Rattle.store.specs.Meaning.{Meaning, cell-at, fault-of, unless, claimed, with-cells}
+use Rattle.store.proofs.Finding.{cell-append, cell-within}
+use Rattle.store.proofs.Granting.{with-more}
 use Rattle.tree.specs.declared.Side.{Side}
 use Rattle.tree.specs.declared.Node.{Node}
 use Rattle.tree.specs.Trees.{Tree, leaf, node, root, height, side, cell-of, node-of, Kept}
@@ -30,35 +30,6 @@ refused x y h = let z : _≡_ {A = ℕ} 0 1 = cc in absurd (omega arith)
 -- two good answers that are equal
 pub same-answer : {A F : Type 0} (x y : A) → _≡_ {A = Result A F} (Ok x) (Ok y) → x ≡ y
 same-answer x y h = cc
-
-module _ {X : Type 0} where
-  nothing : {P : Type 0} (x : X) → None ≡ Some x → P
-  nothing x h = let z : _≡_ {A = ℕ} 0 1 = cc in absurd (omega arith)
-
-  nth-more : (xs ys : List X) (i : ℕ) (x : X) → nth xs i ≡ Some x → nth (xs ++ ys) i ≡ Some x
-  nth-more [] ys i x h = nothing x h
-  nth-more (y ∷ xs) ys zero x h = h
-  nth-more (y ∷ xs) ys (suc i) x h = nth-more xs ys i x h
-
-  nth-in : (xs : List X) (i : ℕ) (x : X) → nth xs i ≡ Some x → i < length xs
-  nth-in [] i x h = nothing x h
-  nth-in (y ∷ xs) zero x h = omega arith
-  nth-in (y ∷ xs) (suc i) x h = omega (arith, nth-in xs i x h)
-
-  nth-new : (xs : List X) (x : X) → nth (xs ++ (x ∷ [])) (length xs) ≡ Some x
-  nth-new [] x = refl
-  nth-new (y ∷ xs) x = nth-new xs x
-
-cell-more : (xs ys : List Cell) (k : ℕ) (c : Cell) → cell-at xs k ≡ Some c → cell-at (xs ++ ys) k ≡ Some c
-cell-more xs ys zero c h = h
-cell-more xs ys (suc i) c h = nth-more xs ys i c h
-
-cell-in : (xs : List Cell) (k : ℕ) (c : Cell) → cell-at xs k ≡ Some c → k ≤ length xs
-cell-in xs zero c h = omega arith
-cell-in xs (suc i) c h = nth-in xs i c h
-
-pub cell-new : (xs : List Cell) (c : Cell) → cell-at (xs ++ (c ∷ [])) (length xs + 1) ≡ Some c
-cell-new xs c = rw add-one (nth-new xs c)
 
 -- a claim that there is room for is accepted, and an accepted one has room
 pub accepted : (m : Meaning) (k : ℕ) → Room m k → fault-of m k ≡ None
@@ -81,17 +52,12 @@ room-left m n new k gained room = rw gained (omega arith, omega arith)
 
 -- new cells after new cells
 pub gains : (m n u : Meaning) (xs ys : List Cell) → n ≡ with-cells m xs → u ≡ with-cells n ys → u ≡ with-cells m (xs ++ ys)
-gains m n u xs ys a b =
-    let count : length (xs ++ ys) ≡ length xs + length ys = length-append xs ys in
-    let cells = append-assoc (m .cells) xs ys in
-    let allowance : m .allowance - length xs - length ys ≡ m .allowance - length (xs ++ ys) = omega arith in
-    let space : m .space - length xs - length ys ≡ m .space - length (xs ++ ys) = omega arith in
-    b ∙ rw (a, cells, allowance, space) refl
+gains m n u xs ys a b = b ∙ ap (λ w. with-cells w ys) a ∙ with-more m xs ys
 
 module _ {E St T : Type 0} (e : effect.Ghosts E St) (t : time.Ghosts T) where
   pub kept-more : (cells more : List Cell) (s : Tree E T) → Kept e t cells s → Kept e t (cells ++ more) s
   kept-more cells more leaf h = tt
-  kept-more cells more (node k l o r) h = (cell-more cells more k _ (h .0), h .1, h .2, h .3, h .4, kept-more cells more l (h .5), kept-more cells more r (h .6))
+  kept-more cells more (node k l o r) h = (cell-append cells more k _ (h .0), h .1, h .2, h .3, h .4, kept-more cells more l (h .5), kept-more cells more r (h .6))
 
   -- what is kept stays kept when cells are new
   pub still : (m n : Meaning) (new : List Cell) (s : Tree E T) → n ≡ with-cells m new → Kept e t (m .cells) s → Kept e t (n .cells) s
@@ -99,7 +65,7 @@ module _ {E St T : Type 0} (e : effect.Ghosts E St) (t : time.Ghosts T) where
 
   pub root-in : (cells : List Cell) (s : Tree E T) → Kept e t cells s → root s ≤ length cells
   root-in cells leaf h = omega arith
-  root-in cells (node k l o r) h = cell-in cells k _ (h .0)
+  root-in cells (node k l o r) h = cell-within cells k _ (h .0) .1
 
   -- heights go no higher than cell numbers
   pub height-below : (cells : List Cell) (s : Tree E T) → Kept e t cells s → height s ≤ root s
