@@ -10,7 +10,6 @@ use Rattle.std.specs.declared.result.Result.the-variants.{Ok}
 use Rattle.std.specs.shelf.Lists.{All, sumBy}
 use Rattle.std.proofs.shelf.Lists.{length-push, length-map}
 use Rattle.std.proofs.shelf.Sums.{sumBy-cons, sumBy-le}
-use Rattle.std.proofs.shelf.Tests.{cond-false, le-ltb}
 use Rattle.store.proofs.Granting.{free-granted}
 use Rattle.store.specs.Meaning.{Meaning, fault-of, unless, claimed, with-cells}
 use Rattle.reference.specs.Beliefs.{Kinds, Belief, entered}
