@@ -5,6 +5,14 @@ ghost use Prim.Native.Nat.{ℕ, _<_, _^_};
 ghost use Rattle.std.specs.declared.option.Option.{Option};
 ghost use Rattle.std.specs.declared.option.Option.the-variants.{Some};
 
+mod clock;
+mod place;
+
+pub use clock::Clock;
+pub use clock::ClockTime;
+pub use place::Place;
+pub use place::PlaceTime;
+
 // A kind of time. The ghost members say its order and its words, the laws are what every kind owes,
 // and each method answers what a ghost member says.
 pub trait Time: Copy {

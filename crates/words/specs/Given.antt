@@ -2,9 +2,9 @@
 use mathlib.Core.Bool.{Bool, true, false}
 use lib.Dec.{T}
 use Rattle.std.specs.declared.option.Option.{Option}
-use Rattle.std.specs.declared.option.Option.the-variants.{Some, None}
+use Rattle.std.specs.declared.option.Option.the-variants.{None}
 
--- `Some` of the value that the passed test gives, or `None` where it fails.
-abbrev pub given : {A : Type 0} → (test : Bool) → (T test → A) → Option A
-given true value = Some (value tt)
+-- What the passed test gives, or `None` where it fails.
+abbrev pub given : {A : Type 0} → (test : Bool) → (T test → Option A) → Option A
+given true value = value tt
 given false value = None

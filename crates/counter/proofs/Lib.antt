@@ -1,0 +1,4 @@
+pub mod Sames
+pub mod Made
+mod Limits
+mod Words

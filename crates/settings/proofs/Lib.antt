@@ -1,0 +1,4 @@
+pub mod Sames
+mod Fields
+mod Made
+mod Words

@@ -1,0 +1,3 @@
+pub mod Sames
+mod Orders
+mod Words
