@@ -14,5 +14,4 @@ pub use refusal::RefusalFromFault;
 // for a missing cell. For effects E, times T and states S of any kind.
 pub fn places_fit<E, T, S>()
     ensures { λ _. ⌜ PlacesFit E T S ⌝ }
-{
-}
+{}

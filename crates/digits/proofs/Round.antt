@@ -103,6 +103,18 @@ written-read cs bs e =
     let both = ok-both (checked cs) (paired cs) bs e in
     let p = passed cs (both .0) in subst (λ l. encoded l ≡ cs) (both .1) (encoded-paired 0 cs (p .digits) (p .even))
 
+value-below : (c : ℕ) → value c < 16
+value-below c = grind (arith, tells)
+
+under-paired : (cs : List ℕ) → Under 256 (paired cs)
+under-paired [] = tt
+under-paired (c ∷ []) = tt
+under-paired (c ∷ d ∷ cs) = let high = value-below c in let low = value-below d in (omega arith, under-paired cs)
+
+-- what is read of digits are bytes
+pub under-read : (cs bs : List ℕ) → Ok bs ≡ decoded cs → Under 256 bs
+under-read cs bs e = subst (Under 256) (ok-both (checked cs) (paired cs) bs e .1) (under-paired cs)
+
 -- so are those that bytes hold
 pub written-again : (cs : List ℕ) (mine b : Bytes) → _≡_ {A = Result Bytes Flaw} (Ok mine) (Ok b) → Ok (contents mine) ≡ decoded cs → encoded (contents b) ≡ cs
 written-again cs mine b same e = let is : mine ≡ b = cc in subst (λ x. encoded (contents x) ≡ cs) is (written-read cs (contents mine) e)
