@@ -1,5 +1,6 @@
 // Kinds of effect: what an operation does to the state of a printer.
 ghost use mathlib.Core.Path.{_≡_};
+ghost use mathlib.Core.Bool.{true};
 ghost use Rattle.std.specs.declared.option.Option.{Option};
 ghost use Rattle.std.specs.declared.option.Option.the-variants.{Some};
 ghost use Rattle.std.specs.Iters.{folded};
@@ -7,6 +8,7 @@ ghost use Rattle.words.specs.declared.EffectWords.{EffectWords};
 ghost use Rattle.words.specs.declared.StateWords.{StateWords};
 use words::EffectWords;
 use words::StateWords;
+use words::StateWordsPartialEq;
 
 // A kind of effect. The ghost members say what its effects and states are, the laws are what every kind owes,
 // and each method answers what a ghost member says.
@@ -92,4 +94,13 @@ pub fn compose_all<E: Effect>(effects: &[E]) -> E
         total = total.compose(*effect);
     }
     total
+}
+
+// Whether effects carry a state one after the other to where their composition takes it: they always do.
+pub fn composition_agrees<E: Effect>(from: E::State, effects: &[E]) -> bool
+    ensures { λ r. ⌜ r ≡ true ⌝ }
+{
+    let in_turn = carry(from, effects);
+    let at_once = compose_all(effects).act(from);
+    E::state_words(in_turn) == E::state_words(at_once)
 }

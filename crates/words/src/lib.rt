@@ -8,7 +8,7 @@ pub struct EffectWords {
 }
 
 // The words of a state. How many there are stands here alone.
-#[derive(Clone, Copy)]
+#[derive(Clone, Copy, PartialEq, Eq)]
 pub struct StateWords {
     pub first: u64,
 }

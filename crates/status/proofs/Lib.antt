@@ -1,0 +1,4 @@
+pub mod Sames
+mod Statuses
+mod Octals
+mod Rows

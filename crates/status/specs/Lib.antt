@@ -1,0 +1,4 @@
+pub mod Codes
+pub mod Turns
+pub mod Packing
+pub mod Events
