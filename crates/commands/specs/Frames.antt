@@ -14,7 +14,7 @@ use Rattle.text.specs.declared.flaw.Flaw.{Flaw}
 use Rattle.text.specs.declared.flaw.Flaw.the-variants.{BadCode, WrongLength, NoTime, OutOfRange}
 use Rattle.digits.specs.Hex.{decoded, encoded}
 use Rattle.times.specs.declared.Time as time
-use Rattle.commands.specs.declared.payload.Payload as payload
+use Rattle.payloads.specs.declared.payload.Payload as payload
 use Rattle.commands.specs.declared.command.EffectKind.{EffectKind}
 use Rattle.commands.specs.declared.command.EffectKind.the-variants.{Counter, Settings, Status}
 use Rattle.commands.specs.declared.command.TimeKind.{TimeKind}

@@ -1,6 +1,5 @@
 // Commands: what a line asks for, read from it and written as one.
 pub mod command;
-pub mod payload;
 pub mod reading;
 pub mod writing;
 
@@ -8,6 +7,5 @@ pub use command::Command;
 pub use command::EffectKind;
 pub use command::Opening;
 pub use command::TimeKind;
-pub use payload::Payload;
 pub use reading::read;
 pub use writing::write;

@@ -10,7 +10,7 @@ use crate::command::Command;
 use crate::command::EffectKind;
 use crate::command::Opening;
 use crate::command::TimeKind;
-use crate::payload::Payload;
+use payloads::Payload;
 use bytes::split_u16;
 use bytes::split_u64;
 use digits::decode;
@@ -136,7 +136,7 @@ fn read_entry<E: Payload, T: Time>(body: &[u8]) -> Result<(T, E::Form), Flaw>
         });
     };
     match E::parse(rest) {
-        Some((payload, _)) => Ok((time, payload)),
+        Some(payload) => Ok((time, payload)),
         None => Err(Flaw::OutOfRange {
             code: 0x10,
             place: 2 * PAYLOAD_AT,

@@ -11,7 +11,7 @@ ghost use Rattle.commands.specs.Frames.{forms, effect-code, time-code, frame, 
 use crate::command::Command;
 use crate::command::EffectKind;
 use crate::command::TimeKind;
-use crate::payload::Payload;
+use payloads::Payload;
 use bytes::u16_bytes;
 use bytes::u64_bytes;
 use digits::Bytes;

@@ -2,17 +2,16 @@
 ghost use mathlib.Core.Path.{_≡_};
 ghost use mathlib.Core.List.{List, _++_};
 ghost use Prim.Native.Nat.{ℕ, _≤_, _+_};
-ghost use lib.ListN.{length, take, drop};
+ghost use lib.ListN.{length, take};
 ghost use Rattle.std.specs.shelf.Digits.{Under};
 ghost use Rattle.std.specs.declared.option.Option.{Option};
 ghost use Rattle.std.specs.declared.option.Option.the-variants.{Some};
 ghost use Rattle.digits.specs.Held.{contents};
-ghost use Rattle.commands.specs.Parsed.{Parses};
 use digits::Bytes;
 use effects::Effect;
 
 // A kind of effect whose effects are entered by payloads. A payload finds its own length among the bytes that it
-// begins, and hands on the rest, so that payloads can follow one another.
+// begins, and is read whatever follows it, so that payloads can follow one another.
 pub trait Payload: Effect {
     type Form: Copy;
 
@@ -43,12 +42,13 @@ pub trait Payload: Effect {
     fn effect(form: Self::Form) -> Self
         ensures { λ r. ⌜ r ≡ entered form ⌝ };
 
+    // How many of the bytes are the payload's; those after them are handed on.
     fn size_of(start: &[u8]) -> usize
         ensures { λ r. ⌜ r ≡ size (now (start .entry)) ⌝ };
 
-    // The payload that the bytes begin with, and the bytes after it.
-    fn parse(bytes: &[u8]) -> Option<(Self::Form, &[u8])>
-        ensures { λ r. ⌜ Parses (parsed (now (bytes .entry))) (drop (size (now (bytes .entry))) (now (bytes .entry))) r ⌝ };
+    // The payload that the bytes begin with.
+    fn parse(bytes: &[u8]) -> Option<Self::Form>
+        ensures { λ r. ⌜ r ≡ parsed (now (bytes .entry)) ⌝ };
 
     // Appends the payload's bytes, where there is room for them.
     fn append(form: Self::Form, out: &mut Bytes)
