@@ -49,6 +49,10 @@ paired-encoded (b ∷ bs) u =
     let whole : value (digit-of (b / 16)) * 16 + value (digit-of (b % 16)) ≡ b = ap (λ x. x * 16 + value (digit-of (b % 16))) high ∙ ap (λ x. b / 16 * 16 + x) low ∙ omega arith in
     ap (λ x. x ∷ paired (encoded bs)) whole ∙ ap (λ l. b ∷ l) (paired-encoded bs (u .1))
 
+-- no two lists of bytes are written as the same digits
+pub encoded-apart : (xs ys : List ℕ) → Under 256 xs → Under 256 ys → encoded xs ≡ encoded ys → xs ≡ ys
+encoded-apart xs ys u v e = sym (paired-encoded xs u) ∙ ap paired e ∙ paired-encoded ys v
+
 all-digits : (i : ℕ) (bs : List ℕ) → Under 256 bs → no-digit i (encoded bs) ≡ None
 all-digits i [] u = refl
 all-digits i (b ∷ bs) u =
