@@ -70,12 +70,12 @@ pub fn flaw_line(flaw: Flaw) -> Line
 }
 
 // The bytes of a latest operation.
-fn newest_bytes<T: Time>(code: u8, operation: u32, time: T) -> Bytes
-    ensures { λ r. ⌜ contents r ≡ code ∷ (0x00 ∷ (0x01 ∷ (bytes-of 2 operation ++ bytes-of 8 (T·Time .word time)))) ⌝ }
+fn newest_bytes<T: Time>(code: u8, found: (u32, T)) -> Bytes
+    ensures { λ r. ⌜ contents r ≡ code ∷ (0x00 ∷ (0x01 ∷ (bytes-of 2 (found .0) ++ bytes-of 8 (T·Time .word (found .1))))) ⌝ }
 {
     let mut out = three_bytes(code, 0x00, 0x01);
-    append_low(operation, &mut out);
-    out.append(&u64_bytes(time.to_word()));
+    append_low(found.0, &mut out);
+    out.append(&u64_bytes(found.1.to_word()));
     out
 }
 
@@ -85,7 +85,7 @@ fn latest_bytes<T: Time>(code: u8, latest: Option<(u32, T)>) -> Bytes
 {
     match latest {
         None => three_bytes(code, 0x00, 0x00),
-        Some((operation, time)) => newest_bytes(code, operation, time),
+        Some(found) => newest_bytes(code, found),
     }
 }
 

@@ -1,9 +1,11 @@
 // Reading a command from a line.
 ghost use mathlib.Core.Path.{_≡_};
 ghost use Prim.Native.Nat.{_<_, _≤_, _+_, _*_};
+ghost use Rattle.text.specs.declared.flaw.Flaw.{Flaw};
 ghost use Rattle.text.specs.declared.flaw.Flaw.the-variants.{WrongLength};
+ghost use Rattle.text.specs.Flaws.{number-and-place};
 ghost use lib.ListN.{length};
-ghost use Rattle.std.specs.declared.result.Result.the-variants.{Ok};
+ghost use Rattle.std.specs.declared.result.Result.the-variants.{Ok, Err};
 ghost use Rattle.commands.specs.declared.command.Command.{Command};
 ghost use Rattle.commands.specs.Frames.{forms, effect-kind, time-kind, opening-of, number-of, entry-of, question-of, command-in, command, written};
 use crate::command::Command;
@@ -186,12 +188,21 @@ fn command_in<E: Payload, T: Time>(frame: &[u8], opened: bool) -> Result<Command
     }
 }
 
-// The command that a line asks for, where the record is opened or not, or why it asks for none. An accepted line
-// written again is the same line.
-pub fn read<E: Payload, T: Time>(line: &[u8], opened: bool) -> Result<Command<E::Form, T>, Flaw>
+// The command that a line asks for, where the record is opened or not.
+fn command_on<E: Payload, T: Time>(line: &[u8], opened: bool) -> Result<Command<E::Form, T>, Flaw>
     ensures command { λ r. ⌜ r ≡ command (forms E·Payload T·Time) opened (now (line .entry)) ⌝ }
     ensures again { λ r. ⌜ ((c : Command E·Form T) → r ≡ Ok c → written (forms E·Payload T·Time) c ≡ now (line .entry)) ⌝ }
 {
     let frame = decode(line)?;
     command_in::<E, T>(frame.as_slice(), opened)
+}
+
+// The command that a line asks for, where the record is opened or not, or why it asks for none. An accepted line
+// written again is the same line; the place of a refusal is at most 64.
+pub fn read<E: Payload, T: Time>(line: &[u8], opened: bool) -> Result<Command<E::Form, T>, Flaw>
+    ensures command { λ r. ⌜ r ≡ command (forms E·Payload T·Time) opened (now (line .entry)) ⌝ }
+    ensures again { λ r. ⌜ ((c : Command E·Form T) → r ≡ Ok c → written (forms E·Payload T·Time) c ≡ now (line .entry)) ⌝ }
+    ensures near { λ r. ⌜ ((f : Flaw) → r ≡ Err f → number-and-place f .1 ≤ 64) ⌝ }
+{
+    command_on::<E, T>(line, opened)
 }

@@ -123,6 +123,10 @@ under-read cs bs e = subst (Under 256) (ok-both (checked cs) (paired cs) bs e .1
 pub written-again : (cs : List ℕ) (mine b : Bytes) → _≡_ {A = Result Bytes Flaw} (Ok mine) (Ok b) → Ok (contents mine) ≡ decoded cs → encoded (contents b) ≡ cs
 written-again cs mine b same e = let is : mine ≡ b = cc in subst (λ x. encoded (contents x) ≡ cs) is (written-read cs (contents mine) e)
 
+-- a line that is read has at most 64 characters
+pub accepted-short : (cs bs : List ℕ) → Ok bs ≡ decoded cs → length cs ≤ 64
+accepted-short cs bs e = passed cs (ok-both (checked cs) (paired cs) bs e .0) .short
+
 -- what is read of digits is half as long
 pub half-read : (cs bs : List ℕ) → Ok bs ≡ decoded cs → length cs ≡ 2 * length bs
 half-read cs bs e = sym (ap length (written-read cs bs e)) ∙ length-encoded bs
