@@ -126,7 +126,10 @@ fn answer_frame<E: Effect, T: Time>(code: u8, answer: Result<Answer<E::State, T>
 }
 
 // The answer to a command of a code. Two answers to one command that differ in what a line tells have different lines.
-pub fn answer_line<E: Effect, T: Time>(code: u8, answer: Result<Answer<E::State, T>, Refusal>) -> Line
+pub fn answer_line<E: Effect, T: Time>(
+    code: u8,
+    answer: Result<Answer<E::State, T>, Refusal>,
+) -> Line
     ensures digits { λ r. ⌜ line-digits r ≡ encoded (answer-bytes (shown E·Effect T·Time) code answer) ⌝ }
     ensures apart { λ r. ⌜ ((other : Result (Answer E·State T) Refusal) → SameCall answer other → Fits (shown E·Effect T·Time) answer → Fits (shown E·Effect T·Time) other → encoded (answer-bytes (shown E·Effect T·Time) code other) ≡ line-digits r → told other ≡ told answer) ⌝ }
 {

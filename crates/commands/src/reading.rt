@@ -12,10 +12,10 @@ use crate::command::Command;
 use crate::command::EffectKind;
 use crate::command::Opening;
 use crate::command::TimeKind;
-use payloads::Payload;
 use bytes::split_u16;
 use bytes::split_u64;
 use digits::decode;
+use payloads::Payload;
 use text::Flaw;
 use times::Time;
 

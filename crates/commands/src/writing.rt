@@ -11,11 +11,11 @@ ghost use Rattle.commands.specs.Frames.{forms, effect-code, time-code, frame, 
 use crate::command::Command;
 use crate::command::EffectKind;
 use crate::command::TimeKind;
-use payloads::Payload;
 use bytes::u16_bytes;
 use bytes::u64_bytes;
 use digits::Bytes;
 use digits::Line;
+use payloads::Payload;
 use times::Time;
 
 fn effect_code(kind: EffectKind) -> u8

@@ -93,7 +93,10 @@ fn command_words<E: PayloadWords, T: TimeWords>(
 fn refuse(rt: &LibcRuntime, number: usize, line: &[u8], flaw: Flaw) -> Result<(), AnyError> {
     let (refusal, place) = flaw.number_and_place();
     let why = flaw_words(flaw);
-    println!(rt, "line {number}: refused with {refusal:02x} at {place}: {why}")?;
+    println!(
+        rt,
+        "line {number}: refused with {refusal:02x} at {place}: {why}"
+    )?;
     let text = shown(rt.alloc(), line)?;
     println!(rt, "  {text}")?;
     let below = mark(rt.alloc(), place.min(80))?;
@@ -134,12 +137,42 @@ fn explain_open(
     kinds: Opening,
 ) -> Result<(), AnyError> {
     let _ = match (kinds.effects, kinds.times) {
-        (EffectKind::Counter, TimeKind::Clock) => explain::<Counter, Clock>(rt, number, line, true)?,
-        (EffectKind::Counter, TimeKind::Place) => explain::<Counter, Place>(rt, number, line, true)?,
-        (EffectKind::Settings, TimeKind::Clock) => explain::<Settings, Clock>(rt, number, line, true)?,
-        (EffectKind::Settings, TimeKind::Place) => explain::<Settings, Place>(rt, number, line, true)?,
-        (EffectKind::Status, TimeKind::Clock) => explain::<Transitions, Clock>(rt, number, line, true)?,
-        (EffectKind::Status, TimeKind::Place) => explain::<Transitions, Place>(rt, number, line, true)?,
+        (EffectKind::Counter, TimeKind::Clock) => explain::<Counter, Clock>(
+            rt,
+            number,
+            line,
+            true,
+        )?,
+        (EffectKind::Counter, TimeKind::Place) => explain::<Counter, Place>(
+            rt,
+            number,
+            line,
+            true,
+        )?,
+        (EffectKind::Settings, TimeKind::Clock) => explain::<Settings, Clock>(
+            rt,
+            number,
+            line,
+            true,
+        )?,
+        (EffectKind::Settings, TimeKind::Place) => explain::<Settings, Place>(
+            rt,
+            number,
+            line,
+            true,
+        )?,
+        (EffectKind::Status, TimeKind::Clock) => explain::<Transitions, Clock>(
+            rt,
+            number,
+            line,
+            true,
+        )?,
+        (EffectKind::Status, TimeKind::Place) => explain::<Transitions, Place>(
+            rt,
+            number,
+            line,
+            true,
+        )?,
     };
     Ok(())
 }
@@ -159,7 +192,10 @@ fn explain_input(rt: &LibcRuntime, input: &[u8]) -> Result<(), AnyError> {
             },
         }
     }
-    println!(rt, "What a ledger would answer cannot be told from the lines.")?;
+    println!(
+        rt,
+        "What a ledger would answer cannot be told from the lines."
+    )?;
     Ok(())
 }
 
@@ -169,7 +205,10 @@ fn run(rt: &LibcRuntime) -> Result<(), AnyError> {
     if let Err(flaw) = check_length(input.as_slice()) {
         let (refusal, place) = flaw.number_and_place();
         let why = flaw_words(flaw);
-        println!(rt, "the input is refused with {refusal:02x} at {place}: {why}")?;
+        println!(
+            rt,
+            "the input is refused with {refusal:02x} at {place}: {why}"
+        )?;
         return Ok(());
     }
     explain_input(rt, input.as_slice())

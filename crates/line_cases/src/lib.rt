@@ -49,7 +49,10 @@ mod tests {
     }
 
     fn status(line: &str, expected: (u8, usize)) -> Result<(), Fail> {
-        check_eq(verdict::<Transitions, Place>(line.as_bytes(), true), expected)
+        check_eq(
+            verdict::<Transitions, Place>(line.as_bytes(), true),
+            expected,
+        )
     }
 
     #[test]

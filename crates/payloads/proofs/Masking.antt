@@ -169,7 +169,10 @@ settings-exact (mask ∷ bs) s u is =
     let n₃ : width m₃ ≤ length b₃ = omega arith in
     let u₀ = u .1 in let u₁ = under-after m₀ bs u₀ in let u₂ = under-after m₁ b₁ u₁ in let u₃ = under-after m₂ b₂ u₂ in
     let values : Setup = record {
-      batch = value m₀ bs; nozzle = value m₁ b₁; plate = value m₂ b₂; profile = value m₃ b₃;
+      batch = value m₀ bs;
+      nozzle = value m₁ b₁;
+      plate = value m₂ b₂;
+      profile = value m₃ b₃;
       small = (value-small m₀ bs u₀ n₀, value-small m₁ b₁ u₁ n₁, value-small m₂ b₂ u₂ n₂, value-small m₃ b₃ u₃ n₃);
     } in
     let setup : s .values ≡ values = setup-apart (s .values) values (ap (λ x. x .second) words) in
