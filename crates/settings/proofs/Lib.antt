@@ -1,4 +1,4 @@
 pub mod Sames
 mod Fields
-mod Made
-mod Words
+pub mod Made
+pub mod Words

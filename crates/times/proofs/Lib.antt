@@ -1,3 +1,3 @@
 pub mod Sames
 mod Orders
-mod Words
+pub mod Words

@@ -1,0 +1,4 @@
+pub mod Exits
+pub mod Framing
+pub mod RoundTrip
+pub mod Places

@@ -1,0 +1,3 @@
+pub mod Counters
+pub mod Events
+pub mod Setups
