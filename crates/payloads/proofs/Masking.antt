@@ -203,7 +203,7 @@ too-short mask bs four short =
 pub settings-made : (mask : ℕ) (bs : List ℕ) (s : Setup) → mask ≤ 15 → widths-of mask ≤ length bs → setup-word s ≡ values-word mask bs → settings-of mask s ≡ settings-in mask bs
 settings-made mask bs s four long word =
     let w = widths mask (omega arith) in
-    read-is mask (values-word mask bs) s word ∙ sym (given-passed (leb (2 * ones (bitAnd mask 15)) (length bs)) _ (le→leb (2 * ones (bitAnd mask 15)) (length bs) (omega arith)))
+    read-is (record { first = mask; second = values-word mask bs }) s word ∙ sym (given-passed (leb (2 * ones (bitAnd mask 15)) (length bs)) _ (le→leb (2 * ones (bitAnd mask 15)) (length bs) (omega arith)))
 
 module _ (mask : ℕ) (bs : List ℕ) (four : mask ≤ 15) where
   pub short-at-0 : length bs < width (masked mask 0) → None ≡ settings-in mask bs
