@@ -33,7 +33,7 @@ pub trait TimeWords: Time {
 }
 
 // What is wrong with a line.
-pub fn flaw_words(flaw: Flaw) -> &'static str {
+pub(crate) fn flaw_words(flaw: Flaw) -> &'static str {
     match flaw {
         Flaw::LongInput => "the input has more than 32768 bytes",
         Flaw::LongLine => "more than 64 characters",
@@ -47,7 +47,7 @@ pub fn flaw_words(flaw: Flaw) -> &'static str {
 }
 
 // What a record is opened with.
-pub fn opening_words(heap: Global, opening: Opening) -> Result<String, AllocError> {
+pub(crate) fn opening_words(heap: Global, opening: Opening) -> Result<String, AllocError> {
     let effects = match opening.effects {
         EffectKind::Counter => "counter",
         EffectKind::Settings => "settings",

@@ -1,40 +1,38 @@
 // Lines of every kind, on both sides of each limit: read, and written again where they are accepted.
-use commands::read;
-use commands::write;
-use counter::Counter;
-use counter::CounterEffect;
-use payloads::CounterPayload;
-use payloads::EventPayload;
-use payloads::Payload;
-use payloads::SettingsPayload;
-use settings::Settings;
-use settings::SettingsEffect;
-use status::Transitions;
-use status::TransitionsEffect;
-use times::Clock;
-use times::ClockTime;
-use times::Place;
-use times::PlaceTime;
-use times::Time;
-
-// The number and the place of a line's refusal: 0 and 0 where it is accepted and written again as it was.
-pub fn verdict<E: Payload, T: Time>(line: &[u8], opened: bool) -> (u8, usize) {
-    match read::<E, T>(line, opened) {
-        Ok(command) => {
-            if write::<E, T>(command).digits() == line {
-                (0, 0)
-            } else {
-                (0xff, 0)
-            }
-        }
-        Err(flaw) => flaw.number_and_place(),
-    }
-}
-
 #[cfg(test)]
 mod tests {
-    use super::*;
+    use commands::read;
+    use commands::write;
+    use counter::Counter;
+    use counter::CounterEffect;
+    use payloads::CounterPayload;
+    use payloads::EventPayload;
+    use payloads::Payload;
+    use payloads::SettingsPayload;
+    use settings::Settings;
+    use settings::SettingsEffect;
+    use status::Transitions;
+    use status::TransitionsEffect;
     use std::test::*;
+    use times::Clock;
+    use times::ClockTime;
+    use times::Place;
+    use times::PlaceTime;
+    use times::Time;
+
+    // The number and the place of a line's refusal: 0 and 0 where it is accepted and written again as it was.
+    fn verdict<E: Payload, T: Time>(line: &[u8], opened: bool) -> (u8, usize) {
+        match read::<E, T>(line, opened) {
+            Ok(command) => {
+                if write::<E, T>(command).digits() == line {
+                    (0, 0)
+                } else {
+                    (0xff, 0)
+                }
+            }
+            Err(flaw) => flaw.number_and_place(),
+        }
+    }
 
     fn opening(line: &str, expected: (u8, usize)) -> Result<(), Fail> {
         check_eq(verdict::<Counter, Clock>(line.as_bytes(), false), expected)

@@ -35,7 +35,7 @@ fn acts_alike(
 }
 
 // The tree at cell k, at most so deep, against the list from a place on.
-pub fn compare<S: Store>(
+pub(crate) fn compare<S: Store>(
     store: &mut S,
     k: u32,
     depth: u32,

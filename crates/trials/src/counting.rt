@@ -20,7 +20,7 @@ pub struct Counting<S: Store> {
 }
 
 impl<S: Store> Counting<S> {
-    pub fn open(below: S) -> Counting<S>
+    pub(crate) fn open(below: S) -> Counting<S>
         requires { ⌜ S·Store .sound below ⌝ }
         ensures sound { λ r. ⌜ counting-sound S·Store r ⌝ }
         ensures meaning { λ r. ⌜ counting-meaning S·Store r ≡ S·Store .meaning below ⌝ }

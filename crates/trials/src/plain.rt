@@ -10,7 +10,7 @@ use reference::Operation;
 use times::Clock;
 
 // Where a new operation goes: before the first of a later time.
-pub fn place_of(plain: &[Operation<Counter, Clock>], time: Clock) -> usize
+pub(crate) fn place_of(plain: &[Operation<Counter, Clock>], time: Clock) -> usize
     ensures { λ r. ⌜ r ≤ length (now (plain .entry)) ⌝ }
 {
     for (i, op) in plain.iter().enumerate() {
@@ -22,7 +22,7 @@ pub fn place_of(plain: &[Operation<Counter, Clock>], time: Clock) -> usize
 }
 
 // Where the operation of a number is.
-pub fn index_of(plain: &[Operation<Counter, Clock>], number: u32) -> Option<usize>
+pub(crate) fn index_of(plain: &[Operation<Counter, Clock>], number: u32) -> Option<usize>
     ensures { λ r. ⌜ Cases r (Unit {0}) (λ i. i < length (now (plain .entry))) ⌝ }
 {
     for (i, op) in plain.iter().enumerate() {
@@ -34,7 +34,7 @@ pub fn index_of(plain: &[Operation<Counter, Clock>], number: u32) -> Option<usiz
 }
 
 // The start state carried through the operations that are not after a time.
-pub fn state_of(plain: &[Operation<Counter, Clock>], at: Clock) -> Level {
+pub(crate) fn state_of(plain: &[Operation<Counter, Clock>], at: Clock) -> Level {
     let mut state = Counter::start_state();
     for op in plain {
         if op.time.seconds() <= at.seconds() {
@@ -45,7 +45,7 @@ pub fn state_of(plain: &[Operation<Counter, Clock>], at: Clock) -> Level {
 }
 
 // The number of the last operation that is not after a time, 0 for none.
-pub fn last_of(plain: &[Operation<Counter, Clock>], at: Clock) -> u32 {
+pub(crate) fn last_of(plain: &[Operation<Counter, Clock>], at: Clock) -> u32 {
     let mut last = 0;
     for op in plain {
         if op.time.seconds() <= at.seconds() {

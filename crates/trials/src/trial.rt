@@ -149,7 +149,7 @@ fn withdraw_and_compare<C: Counts>(
 }
 
 // Enters operations 1 to `count`, and then withdraws every third of them.
-pub fn trial<C: Counts>(
+pub(crate) fn trial<C: Counts>(
     heap: Global,
     store: &mut C,
     times: &Times,

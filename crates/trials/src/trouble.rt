@@ -38,6 +38,6 @@ pub impl From<Fault> for Trouble as TroubleFromFault {
 }
 
 // Goes on where a comparison holds.
-pub fn same(holds: bool) -> Result<(), Trouble> {
+pub(crate) fn same(holds: bool) -> Result<(), Trouble> {
     if holds { Ok(()) } else { Err(Trouble::Differs) }
 }

@@ -14,14 +14,14 @@ use times::Time;
 const CLAIM: u32 = 42;
 
 // The root of the version without operations, before number 1.
-pub fn first_root<E: Effect, T: Time, S: Store>(store: &S) -> u32
+pub(crate) fn first_root<E: Effect, T: Time, S: Store>(store: &S) -> u32
     requires { ⌜ S·Store .sound (now store) ⌝ }
     ensures { λ r. ⌜ Version E·Effect T·Time S·Store (now (store .entry)) r 1 ⌝ }
 {
     0
 }
 
-pub fn enter<E: Effect, T: Time, S: Store>(
+pub(crate) fn enter<E: Effect, T: Time, S: Store>(
     store: &mut S,
     root: u32,
     op: Operation<E, T>,
@@ -35,7 +35,7 @@ pub fn enter<E: Effect, T: Time, S: Store>(
 }
 
 // The new root, or the old one where there was nothing to withdraw. Numbers so far are below `next`.
-pub fn withdraw<E: Effect, T: Time, S: Store>(
+pub(crate) fn withdraw<E: Effect, T: Time, S: Store>(
     store: &mut S,
     root: u32,
     next: u32,
