@@ -14,6 +14,7 @@ mod tests {
     use status::Transitions;
     use status::TransitionsEffect;
     use std::test::*;
+    use text::check_length;
     use times::Clock;
     use times::ClockTime;
     use times::Place;
@@ -103,5 +104,32 @@ mod tests {
         status("210000ffffffff7fffffff", (0, 0))?;
         status("11ffff", (0, 0))?;
         status("220000", (0, 0))
+    }
+
+    #[test]
+    fn texts() -> Result<(), Fail> {
+        counter("", (0x14, 0))?;
+        counter("2", (0x13, 1))?;
+        counter("2g", (0x12, 1))?;
+        counter("2G0", (0x12, 1))?;
+        counter("22000 ", (0x12, 5))?;
+        counter("23", (0x14, 0))?;
+        counter("2200", (0x15, 4))?;
+        counter("200000000001000000000000", (0x15, 24))?;
+        counter("2000000000010000000000", (0x16, 6))
+    }
+
+    #[test]
+    fn limits(rt: LibcRuntime) -> Result<(), Fail> {
+        let line = [b'0'; 65];
+        let expected = (0x11, 64);
+        check_eq(verdict::<Counter, Clock>(&line, true), expected)?;
+        check_eq(verdict::<Counter, Clock>(&line[0..64], true), (0x14, 0))?;
+        let longer = vec![in rt.alloc(); b'#'; 32_769]?;
+        check(check_length(&longer[0..32_768]).is_ok())?;
+        match check_length(&longer) {
+            Ok(()) => Err(Fail::new("an input of 32,769 bytes was taken")),
+            Err(flaw) => check_eq(flaw.number_and_place(), (0x18, 32_768)),
+        }
     }
 }
