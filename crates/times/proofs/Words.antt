@@ -6,12 +6,9 @@ use lib.Dec.{ltb, lt→ltb}
 use lib.IntN.{ℤ, pos, negsuc}
 use lib.Signed.{mag}
 use native.Mathlib.Decide.{decLt}
-use borrow.Author.Differences.{ints}
 use borrow.Author.Tests.{lt-ltb, le-ltb}
-use mir.Syntax.{w32}
-use mir.Val.{toZ}
 use Rattle.std.specs.declared.option.Option.the-variants.{Some}
-use Rattle.words.proofs.Giving.{given-passed, given-some, none-where, some-same}
+use Rattle.words.proofs.Giving.{given-passed, given-some, some-same}
 use Rattle.times.specs.Clocks.{clock-of}
 use Rattle.times.specs.Places.{twos-complement, signed, place-word, place-read}
 use Rattle.times.specs.declared.clock.Clock.{Clock}
@@ -46,10 +43,6 @@ complement-signed n h =
       | yes low ↦ ap twos-complement (signed-low n low)
       | no high ↦ ap twos-complement (signed-high n (omega arith)) ∙ omega arith
     ]
-
--- what reading the bits of a word as signed gives
-pub signed-bits : (n : ℕ) → n < 2 ^ 32 → toZ w32 n ≡ signed n
-signed-bits n h = refl
 
 pub place-small : (p : Place) → place-word p < 2 ^ 64
 place-small p = omega (arith, complement-small (p .layer) (p .layers), p .jobs)
