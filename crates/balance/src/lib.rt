@@ -1,4 +1,6 @@
 // Keeping a tree balanced: joins of sides whose heights differ by at most two. Nothing here looks at an effect or a time.
+#![tactic(auto)]
+
 ghost use Rattle.std.specs.Prelude.{◌≡◌, nat_lt};
 ghost use Rattle.store.specs.Meaning.{Meaning};
 ghost use Rattle.tree.specs.Making.{Grew, Joins};

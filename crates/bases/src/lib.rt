@@ -1,4 +1,6 @@
 // Base stores, which keep their cells themselves: in memory, or in bytes that are handed in.
+#![tactic(auto)]
+
 mod claims;
 pub mod image;
 pub mod table;

@@ -1,4 +1,6 @@
 // Numbers in bytes, most significant byte first.
+#![tactic(auto)]
+
 ghost use Rattle.std.specs.Prelude.{◌≡◌, ◌+◌, ◌≤◌, length};
 ghost use Rattle.big_endian.specs.Numbers.{bytes_of, overwritten, Splits};
 

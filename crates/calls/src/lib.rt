@@ -1,4 +1,6 @@
 // What a ledger is asked and what it answers. specs/ has the reference ledger's verdict on each call.
+#![tactic(auto)]
+
 ghost use Rattle.calls.specs.Widths.{PlacesFit};
 
 pub mod answer;

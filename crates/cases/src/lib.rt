@@ -1,4 +1,6 @@
 // Worked cases of the kinds and of the reference ledger.
+#![tactic(auto)]
+
 ghost use Rattle.std.specs.Prelude.{◌≡◌, Some};
 ghost use Rattle.cases.specs.Cases.{Cases, level, set_to, take};
 

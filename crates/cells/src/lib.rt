@@ -1,4 +1,6 @@
 // The cell: one node of a tree of operations, as a store keeps it, and its layout in bytes.
+#![tactic(auto)]
+
 pub mod codec;
 
 pub use codec::{CELL_BYTES, decode, encode};

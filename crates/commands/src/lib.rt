@@ -1,4 +1,6 @@
 // Commands: what a line asks for, read from it and written as one.
+#![tactic(auto)]
+
 pub mod command;
 pub mod reading;
 pub mod writing;

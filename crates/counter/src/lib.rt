@@ -1,4 +1,6 @@
 // The counter, a kind of effect: how much material is left, in hundredths of a gram.
+#![tactic(auto)]
+
 ghost use Rattle.std.specs.Prelude.{◌≤◌, pos, negsuc, ◌≤ℤ◌};
 
 mod kind;

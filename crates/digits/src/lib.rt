@@ -1,4 +1,6 @@
 // Bytes written as digits, two to a byte, most significant first: the form of every line but remarks.
+#![tactic(auto)]
+
 pub mod line;
 pub mod reading;
 pub mod writing;

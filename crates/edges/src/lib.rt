@@ -1,4 +1,6 @@
 // The limits of the kinds, tried from both sides.
+#![tactic(auto)]
+
 #[cfg(test)]
 mod tests {
     use counter::Counter;

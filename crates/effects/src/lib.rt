@@ -1,4 +1,6 @@
 // Kinds of effect: what an operation does to the state of a printer.
+#![tactic(auto)]
+
 ghost use Rattle.std.specs.Prelude.{◌≡◌, true, Some, fold, Option};
 ghost use Rattle.words.specs.declared.EffectWords.{EffectWords};
 ghost use Rattle.words.specs.declared.StateWords.{StateWords};
@@ -70,7 +72,7 @@ pub trait Effect: Copy {
 
 // A state carried through effects, first to last.
 pub fn carry<E: Effect>(from: E::State, effects: &[E]) -> E::State
-    ensures { result ≡ fold (λ s e. acts e s) from effects.now }
+    ensures { result ≡ fold (λ s e. E.acts e s) from effects.now }
 {
     let mut state = from;
     for effect in effects {
@@ -81,8 +83,8 @@ pub fn carry<E: Effect>(from: E::State, effects: &[E]) -> E::State
 
 // All effects composed into one, first to last: acting with it is carrying a state through them.
 pub fn compose_all<E: Effect>(effects: &[E]) -> E
-    ensures value { result ≡ fold composed unchanged effects.now }
-    ensures carries { (s : E.State) → acts result s ≡ fold (λ t e. acts e t) s effects.now }
+    ensures value { result ≡ fold E.composed E.unchanged effects.now }
+    ensures carries { (s : E.State) → E.acts result s ≡ fold (λ t e. E.acts e t) s effects.now }
 {
     let mut total = E::no_change();
     for effect in effects {

@@ -1,5 +1,7 @@
 // Says in words what each line of an input asks for, or which refusal of a line it would get and where. It opens no
 // ledger: what a ledger would answer to a command it cannot know.
+#![tactic(auto)]
+
 mod words;
 
 use commands::{Command, EffectKind, Opening, TimeKind, read};

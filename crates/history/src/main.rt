@@ -1,5 +1,7 @@
 // One printer through a correction: entries, a late one, and a wrong batch withdrawn after questions had been answered.
 // What was believed before and what is believed after are both asked, and told with the cells that each change took.
+#![tactic(auto)]
+
 use anyhow::anyhow;
 use bases::Image;
 use calls::{Answer, Call, Refusal};

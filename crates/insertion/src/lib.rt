@@ -1,4 +1,6 @@
 // Inserting an operation: one path of the tree is copied, and every older root reads as before.
+#![tactic(auto)]
+
 ghost use Rattle.std.specs.Prelude.{◌≡◌, ◌≤◌, length, None};
 ghost use Rattle.store.specs.Meaning.{fault_of};
 ghost use Rattle.order.specs.Order.{Below};

@@ -1,4 +1,6 @@
 // The law of a ledger over its runs, proved from what a step is, before any ledger runs: specs/Law.antt has it.
+#![tactic(auto)]
+
 ghost use Rattle.reference.specs.Beliefs.{kinds};
 ghost use Rattle.law.specs.Law.{Promise};
 ghost use Rattle.law.specs.Theorems.{EveryRun, Throughout, OneMore, Seconds, NextFits};

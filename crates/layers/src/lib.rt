@@ -1,4 +1,6 @@
 // Layers, which stand over any store and are stores themselves.
+#![tactic(auto)]
+
 pub mod cache;
 mod lines;
 pub mod quota;

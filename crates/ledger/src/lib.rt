@@ -1,4 +1,6 @@
 // The ledger: beliefs of a printer, each a tree in the cells of a store.
+#![tactic(auto)]
+
 use std::marker::PhantomData;
 
 pub mod changes;

@@ -1,4 +1,6 @@
 // Lines of every kind, on both sides of each limit: read, and written again where they are accepted.
+#![tactic(auto)]
+
 #[cfg(test)]
 mod tests {
     use commands::{read, write};

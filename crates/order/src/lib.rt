@@ -1,4 +1,6 @@
 // The order of operations: by time, and by number where times are equal.
+#![tactic(auto)]
+
 ghost use Rattle.std.specs.Prelude.{◌≡◌};
 ghost use Rattle.reference.specs.Beliefs.{kinds, before};
 

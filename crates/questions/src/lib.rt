@@ -1,4 +1,6 @@
 // Questions to a tree of operations, each by one descent from its root.
+#![tactic(auto)]
+
 ghost use Rattle.std.specs.Prelude.{◌≡◌, Ok};
 ghost use Rattle.reference.specs.Beliefs.{kinds, state, latest};
 ghost use Rattle.order.specs.Order.{has};

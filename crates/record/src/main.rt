@@ -1,4 +1,6 @@
 // The program record: reads standard input and answers each line of it on standard output.
+#![tactic(auto)]
+
 use bases::Image;
 use session::answer_input;
 use std::io::{Read, Write};

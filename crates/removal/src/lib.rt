@@ -1,4 +1,6 @@
 // Removing an operation: one path of the tree is copied, and every older root reads as before.
+#![tactic(auto)]
+
 ghost use Rattle.std.specs.Prelude.{◌≡◌, ◌<◌, ◌≤◌, true, false, length, None, Ok};
 ghost use Rattle.reference.specs.Beliefs.{kinds, without};
 ghost use Rattle.store.specs.Meaning.{fault_of};

@@ -1,4 +1,6 @@
 // Runs of a ledger: calls carried out one by one and in lists, with the law over runs as their contract.
+#![tactic(auto)]
+
 ghost use Rattle.std.specs.Prelude.{◌≡◌, ◌≤◌, true, [], ◌∷◌, length, is_err, IfOk, vec_len, vec_capacity};
 ghost use Rattle.reference.specs.Beliefs.{kinds};
 ghost use Rattle.law.specs.Runs.{Step, Run};

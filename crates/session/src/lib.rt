@@ -1,4 +1,6 @@
 // A session of the record: the lines of an input answered, from bytes to bytes.
+#![tactic(auto)]
+
 use counter::Counter;
 use layers::{Cache, Quota};
 use ledger::Ledger;

@@ -1,5 +1,7 @@
 // Sessions of each kind of effect on each kind of time, with every refusal that a line can meet. What is expected is
 // worked out by hand from the rules; a remark has no answer.
+#![tactic(auto)]
+
 #[cfg(test)]
 mod tests {
     use bases::Image;

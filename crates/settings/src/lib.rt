@@ -1,4 +1,6 @@
 // The settings, a kind of effect: what a printer is set up with.
+#![tactic(auto)]
+
 ghost use Rattle.std.specs.Prelude.{◌≡◌, ◌<◌, false};
 ghost use Rattle.settings.specs.Masks.{masked};
 

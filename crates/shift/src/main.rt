@@ -1,5 +1,7 @@
 // A printer's shift: effects of all three kinds in order, printed step by step as a person reads them, and then the
 // same states by one composed effect a kind.
+#![tactic(auto)]
+
 use anyhow::anyhow;
 use cases::spool_left;
 use counter::{Counter, Level};

@@ -1,4 +1,6 @@
 // Any stack of layers is a store: functions over every store, and two stacks that are opened and used through them.
+#![tactic(auto)]
+
 ghost use Rattle.std.specs.Prelude.{◌≡◌, ℕ, ◌+◌, ◌<◌, true, replicate, is_err, IfOk, None, Ok, vec_len};
 ghost use Rattle.store.specs.Meaning.{Meaning, fault_of, unless, claimed, put_answer, after_put, with_cells, got};
 ghost use Rattle.bases.specs.Images.{image_bytes};
@@ -13,11 +15,11 @@ use store::{Fault, Store};
 
 // Puts the cell, and gets it again by the number that it was given.
 pub fn put_and_get<S: Store>(store: &mut S, cell: Cell) -> Result<Cell, Fault>
-    requires { sound store.old }
-    ensures stays { sound store.new }
-    ensures answer { result ≡ unless (fault_of (meaning store.old) 1) cell }
-    ensures after { meaning store.new ≡ after_put (meaning store.old) cell }
-    ensures untouched { is_err result ≡ true → buffer store.new ≡ buffer store.old }
+    requires { S.sound store.old }
+    ensures stays { S.sound store.new }
+    ensures answer { result ≡ unless (fault_of (S.meaning store.old) 1) cell }
+    ensures after { S.meaning store.new ≡ after_put (S.meaning store.old) cell }
+    ensures untouched { is_err result ≡ true → S.buffer store.new ≡ S.buffer store.old }
 {
     let number = put_found(store, cell)?;
     store.get(number)
@@ -25,23 +27,23 @@ pub fn put_and_get<S: Store>(store: &mut S, cell: Cell) -> Result<Cell, Fault>
 
 // Puts the cell. Where it is accepted, nothing was at fault, and the store has it under its number.
 fn put_found<S: Store>(store: &mut S, cell: Cell) -> Result<u32, Fault>
-    requires { sound store.old }
-    ensures stays { sound store.new }
-    ensures answer { result ≡ put_answer (meaning store.old) }
-    ensures after { meaning store.new ≡ after_put (meaning store.old) cell }
-    ensures untouched { is_err result ≡ true → buffer store.new ≡ buffer store.old }
-    ensures found { IfOk result (λ number. (fault_of (meaning store.old) 1 ≡ None) × (got (meaning store.new) number ≡ Ok cell)) }
+    requires { S.sound store.old }
+    ensures stays { S.sound store.new }
+    ensures answer { result ≡ put_answer (S.meaning store.old) }
+    ensures after { S.meaning store.new ≡ after_put (S.meaning store.old) cell }
+    ensures untouched { is_err result ≡ true → S.buffer store.new ≡ S.buffer store.old }
+    ensures found { IfOk result (λ number. (fault_of (S.meaning store.old) 1 ≡ None) × (got (S.meaning store.new) number ≡ Ok cell)) }
 {
     store.put(cell)
 }
 
 // Claims n cells, and then puts the cell n times: all of them or none.
 pub fn put_copies<S: Store>(store: &mut S, cell: Cell, n: u32) -> Result<(), Fault>
-    requires { sound store.old }
-    ensures stays { sound store.new }
-    ensures answer { result ≡ claimed (meaning store.old) n }
-    ensures after { meaning store.new ≡ after_copies (meaning store.old) cell n }
-    ensures untouched { is_err result ≡ true → buffer store.new ≡ buffer store.old }
+    requires { S.sound store.old }
+    ensures stays { S.sound store.new }
+    ensures answer { result ≡ claimed (S.meaning store.old) n }
+    ensures after { S.meaning store.new ≡ after_copies (S.meaning store.old) cell n }
+    ensures untouched { is_err result ≡ true → S.buffer store.new ≡ S.buffer store.old }
 {
     store.claim(n)?;
     for _i in 0..n {
@@ -52,9 +54,9 @@ pub fn put_copies<S: Store>(store: &mut S, cell: Cell, n: u32) -> Result<(), Fau
 
 // Puts the cell once more. Where fewer copies of it than were granted are in the store, it is not refused.
 fn put_granted<S: Store>(store: &mut S, cell: Cell)
-    requires { sound store.old }
-    ensures stays { sound store.new }
-    ensures next { (m : Meaning) (n i : ℕ) → Ok tt ≡ claimed m n → i < n → meaning store.old ≡ with_cells m (replicate i cell) → meaning store.new ≡ with_cells m (replicate (i + 1) cell) }
+    requires { S.sound store.old }
+    ensures stays { S.sound store.new }
+    ensures next { (m : Meaning) (n i : ℕ) → Ok tt ≡ claimed m n → i < n → S.meaning store.old ≡ with_cells m (replicate i cell) → S.meaning store.new ≡ with_cells m (replicate (i + 1) cell) }
 {
     let _ = store.put(cell);
 }

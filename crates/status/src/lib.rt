@@ -1,4 +1,6 @@
 // The status, a kind of effect: what a printer is doing.
+#![tactic(auto)]
+
 ghost use Rattle.std.specs.Prelude.{◌≡◌, length};
 
 mod events;

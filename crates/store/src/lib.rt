@@ -1,4 +1,6 @@
 // Stores of cells, known by their meaning alone.
+#![tactic(auto)]
+
 ghost use Rattle.std.specs.Prelude.{◌≡◌, ℕ, ◌+◌, ◌≤◌, true, List, length, is_err};
 ghost use Rattle.store.specs.Meaning.{Meaning, claimed, put_answer, after_put, got};
 

@@ -1,4 +1,6 @@
 // The lines of an input: where each begins and ends, and why a line is refused.
+#![tactic(auto)]
+
 pub mod flaw;
 pub mod items;
 pub mod reader;

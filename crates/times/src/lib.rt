@@ -1,4 +1,6 @@
 // Kinds of time: when an operation happened.
+#![tactic(auto)]
+
 ghost use Rattle.std.specs.Prelude.{◌≡◌, ℕ, ◌^◌, ◌<◌, Bool, true, ◌||◌, Some, Option};
 
 mod clock;

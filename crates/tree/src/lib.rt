@@ -1,4 +1,6 @@
 // The tree in the cells: reading its nodes, and joining an operation and two sides by one new cell.
+#![tactic(auto)]
+
 ghost use Rattle.std.specs.Prelude.{◌≡◌, ◌+◌, ◌<◌, max, Some, Ok};
 ghost use Rattle.tree.specs.Trees.{Tree, root, joined, side, cell_of, node_of, Kept};
 ghost use Rattle.tree.specs.Making.{Unchanged, Grew, Says, Reads, Opens, Joins};

@@ -1,4 +1,6 @@
 // Trials of the tree: versions made in many orders, each compared with a plain sorted list, over a store that counts.
+#![tactic(auto)]
+
 mod compare;
 mod counting;
 mod plain;

@@ -1,4 +1,5 @@
 // What effects and states are kept as: words, unsigned numbers of 64 bits.
+#![tactic(auto)]
 
 // The words of an effect. How many there are stands here alone.
 #[derive(Clone, Copy)]
