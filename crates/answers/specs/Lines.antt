@@ -25,7 +25,7 @@ refused code r = code ∷ (r.0 ∷ bytes_of 2 r.1)
 
 -- the answer to a line that asks for nothing
 abbrev pub flaw_bytes : Flaw → List ℕ
-flaw_bytes flaw = refused (flaws.code_of flaw) (flaws.number-and-place flaw)
+flaw_bytes flaw = refused (flaws.code_of flaw) (flaws.number_and_place flaw)
 
 -- 00 for none, or 01 with number and time of the latest operation
 abbrev pub latest_body : {T : Type 0} → (T → ℕ) → Option (ℕ × T) → List ℕ

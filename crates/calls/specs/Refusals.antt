@@ -9,4 +9,4 @@ abbrev pub number_and_place : Refusal → ℕ × ℕ
 number_and_place Full = (0x23, 1023)
 number_and_place (NoOperation n) = (0x22, n)
 number_and_place (NoBelief b) = (0x21, b)
-number_and_place (Store fault) = store.number-and-place fault
+number_and_place (Store fault) = store.number_and_place fault

@@ -47,13 +47,13 @@ settings mask values m p q r s = record {
   mask = mask;
   values = values;
   four = lit< m;
-  bare = (overwriting.bare-from (masked mask 0) values.batch p, overwriting.bare-from (masked mask 1) values.nozzle q, overwriting.bare-from (masked mask 2) values.plate r, overwriting.bare-from (masked mask 3) values.profile s);
+  bare = (overwriting.bare_from (masked mask 0) values.batch p, overwriting.bare_from (masked mask 1) values.nozzle q, overwriting.bare_from (masked mask 2) values.plate r, overwriting.bare_from (masked mask 3) values.profile s);
 }
 
 -- ---- beliefs of a counter on the clock
 
 abbrev material : Kinds Counter Clock Level
-material = record { start = counting.no-level; acts = counting.level-after; upto = clock_upto }
+material = record { start = counting.no_level; acts = counting.level_after; upto = clock_upto }
 
 abbrev operation : ℕ → Clock → Counter → Operation Counter Clock
 operation n t e = record { number = n; time = t; effect = e }

@@ -117,7 +117,7 @@ fn read_question<T: Time>(code: u8, body: &[u8]) -> Result<(u16, T), Flaw>
 // The time and the payload of an entry.
 fn read_entry<E: Payload, T: Time>(body: &[u8]) -> Result<(T, E::Form), Flaw>
     requires { length body.now < 32 }
-    ensures { result ≡ entry_of (forms E.Payload T.Time) body.now }
+    ensures { result ≡ entry_of (forms E.Payload.own T.Time) body.now }
 {
     let Some((word, rest)) = split_u64(body) else {
         return Err(wrong_length(0x10, body));
@@ -143,7 +143,7 @@ fn read_entry<E: Payload, T: Time>(body: &[u8]) -> Result<(T, E::Form), Flaw>
 // The command whose bytes a frame has, where the record is opened or not.
 fn command_in<E: Payload, T: Time>(frame: &[u8], opened: bool) -> Result<Command<E::Form, T>, Flaw>
     requires { length frame.now ≤ 32 }
-    ensures { result ≡ command_in (forms E.Payload T.Time) opened frame.now }
+    ensures { result ≡ command_in (forms E.Payload.own T.Time) opened frame.now }
 {
     let Some((code, body)) = frame.split_first() else {
         return Err(Flaw::BadCode);
@@ -184,8 +184,8 @@ fn command_in<E: Payload, T: Time>(frame: &[u8], opened: bool) -> Result<Command
 
 // The command that a line asks for, where the record is opened or not.
 fn command_on<E: Payload, T: Time>(line: &[u8], opened: bool) -> Result<Command<E::Form, T>, Flaw>
-    ensures command { result ≡ command (forms E.Payload T.Time) opened line.now }
-    ensures again { (c : Command E.Form T) → result ≡ Ok c → written (forms E.Payload T.Time) c ≡ line.now }
+    ensures command { result ≡ command (forms E.Payload.own T.Time) opened line.now }
+    ensures again { (c : Command E.Form T) → result ≡ Ok c → written (forms E.Payload.own T.Time) c ≡ line.now }
 {
     let frame = decode(line)?;
     command_in::<E, T>(frame.as_slice(), opened)
@@ -194,8 +194,8 @@ fn command_on<E: Payload, T: Time>(line: &[u8], opened: bool) -> Result<Command<
 // The command that a line asks for, where the record is opened or not, or why it asks for none. An accepted line
 // written again is the same line; the place of a refusal is at most 64.
 pub fn read<E: Payload, T: Time>(line: &[u8], opened: bool) -> Result<Command<E::Form, T>, Flaw>
-    ensures command { result ≡ command (forms E.Payload T.Time) opened line.now }
-    ensures again { (c : Command E.Form T) → result ≡ Ok c → written (forms E.Payload T.Time) c ≡ line.now }
+    ensures command { result ≡ command (forms E.Payload.own T.Time) opened line.now }
+    ensures again { (c : Command E.Form T) → result ≡ Ok c → written (forms E.Payload.own T.Time) c ≡ line.now }
     ensures near { (f : Flaw) → result ≡ Err f → (number_and_place f).1 ≤ 64 }
 {
     command_on::<E, T>(line, opened)

@@ -45,7 +45,7 @@ fn framed(code: u8, head: &[u8], tail: &[u8]) -> Bytes
 
 // The bytes of an entry.
 fn entry_bytes<E: Payload, T: Time>(time: T, payload: E::Form) -> Bytes
-    ensures { contents result ≡ frame (forms E.Payload T.Time) (Enter time payload) }
+    ensures { contents result ≡ frame (forms E.Payload.own T.Time) (Enter time payload) }
 {
     let mut frame = framed(0x10, &u64_bytes(time.to_word()), &[]);
     E::append(payload, &mut frame);
@@ -61,7 +61,7 @@ fn question_bytes<T: Time>(code: u8, belief: u16, time: T) -> Bytes
 
 // The bytes of a command.
 fn frame_of<E: Payload, T: Time>(asked: Command<E::Form, T>) -> Bytes
-    ensures bytes { contents result ≡ frame (forms E.Payload T.Time) asked }
+    ensures bytes { contents result ≡ frame (forms E.Payload.own T.Time) asked }
     ensures narrow { Narrow asked }
 {
     match asked {
@@ -79,8 +79,8 @@ fn frame_of<E: Payload, T: Time>(asked: Command<E::Form, T>) -> Bytes
 
 // A command as a line, which is read as the command again.
 pub fn write<E: Payload, T: Time>(asked: Command<E::Form, T>) -> Line
-    ensures digits { line_digits result ≡ written (forms E.Payload T.Time) asked }
-    ensures back { command (forms E.Payload T.Time) (wants_open asked) (line_digits result) ≡ Ok asked }
+    ensures digits { line_digits result ≡ written (forms E.Payload.own T.Time) asked }
+    ensures back { command (forms E.Payload.own T.Time) (wants_open asked) (line_digits result) ≡ Ok asked }
 {
     frame_of::<E, T>(asked).to_line()
 }

@@ -86,7 +86,7 @@ module _ {S : Type 0} (s : store.Ghosts S) where
 
   -- The whole of an input to a record over a store: where it is too long, one refusal and nothing else; else its lines in order.
   abbrev pub AnsweredBy : S → List ℕ → Result (Unit {0}) Flaw → Record S → List ℕ → Type 0
-  AnsweredBy below input (Err flaw) record' out = (out ≡ line_of (answers.flaw-bytes flaw)) × (record' ≡ Closed below)
+  AnsweredBy below input (Err flaw) record' out = (out ≡ line_of (answers.flaw_bytes flaw)) × (record' ≡ Closed below)
   AnsweredBy below input (Ok _) record' out = AnsweredFrom below (until_opening (lines_from 0 input)) record' out
 
   abbrev pub Answered : S → List ℕ → Record S → List ℕ → Type 0

@@ -23,14 +23,14 @@ module _ {E St T S : Type 0} (e : effect.Ghosts E St) (t : time.Ghosts T) (s : s
     pub reply : Reply St T
     pub step : Step (kinds e t) call reply (shown e t s before) (shown e t s after)
     pub lawful : Continues (kinds e t) (shown e t s before) (call ∷ []) (reply ∷ []) (shown e t s after)
-    pub line : written answer ≡ line_of (answers.answer-bytes (answers.shown e t) code reply)
+    pub line : written answer ≡ line_of (answers.answer_bytes (answers.shown e t) code reply)
     pub rows : is_err reply ≡ true → after.rows ≡ before.rows
     pub buffer : is_err reply ≡ true → s.buffer after.store ≡ s.buffer before.store
 
   -- What is answered to a line, and what the ledger is after it: a remark and a refused frame leave it whole as it was.
   abbrev pub Hears : Said E T → Option Line → Ledger E T S → Ledger E T S → Type 0
   Hears remarks answer before after = (answer ≡ None) × (after ≡ before)
-  Hears (flawed flaw) answer before after = (written answer ≡ line_of (answers.flaw-bytes flaw)) × (after ≡ before)
+  Hears (flawed flaw) answer before after = (written answer ≡ line_of (answers.flaw_bytes flaw)) × (after ≡ before)
   Hears (asks code call) answer before after = Carried code call answer before after
 
 -- The lines took a ledger from one view to another by one run of their calls, and what was written for them came behind the output before.

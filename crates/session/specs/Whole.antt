@@ -47,7 +47,7 @@ opening_in line = opening_by (command (forms counter-payloads clocks) false line
 -- an accepted opening is answered by its code and 00, and any other frame by its refusal
 abbrev pub opened_by : Result Opening Flaw → List ℕ × Option Opening
 opened_by (Ok o) = (line_of (0x01 ∷ (0x00 ∷ [])), Some o)
-opened_by (Err flaw) = (line_of (answers.flaw-bytes flaw), None)
+opened_by (Err flaw) = (line_of (answers.flaw_bytes flaw), None)
 
 -- what is written for a line while the record is not open, and the opening that it asks for
 abbrev pub heard_closed : Part → List ℕ × Option Opening

@@ -33,7 +33,7 @@ fn serve<E: Payload, T: Time, S: Store>(
 ) -> Session<E, T, Cache<Quota<S>>>
     requires sound { S.Store.sound store }
     requires room { vec_len out.old + 9 * length (joined_lines (unread reader.old)) ≤ vec_capacity out.old }
-    ensures { Adds (Kept S.Store E.Payload E.Effect T.Time (limited (S.Store.meaning store) quota) (unread reader.old) result.ledger) out.old.items out.new.items }
+    ensures { Adds (Kept S.Store E.Payload.own E.Effect T.Time (limited (S.Store.meaning store) quota) (unread reader.old) result.ledger) out.old.items out.new.items }
 {
     let limited = Quota::open(store, u32::from(quota));
     let mut session = Session::<E, T, Cache<Quota<S>>>::open(Cache::open(limited));

@@ -100,7 +100,7 @@ impl<E: Payload, T: Time, S: Store> Session<E, T, S> {
     fn answer_frame(&mut self, frame: &[u8]) -> Line
         requires { Stands E.Effect T.Time S.Store self.old.ledger }
         ensures stands { Stands E.Effect T.Time S.Store self.new.ledger }
-        ensures hears { Hears E.Effect T.Time S.Store (framed E.Payload.entered (command (forms E.Payload T.Time) true frame.now)) (Some result) self.old.ledger self.new.ledger }
+        ensures hears { Hears E.Effect T.Time S.Store (framed E.Payload.entered (command (forms E.Payload.own T.Time) true frame.now)) (Some result) self.old.ledger self.new.ledger }
         ensures short { length (written (Some result)) ≤ 9 * (length frame.now + 1) }
     {
         match read::<E, T>(frame, true) {
@@ -114,7 +114,7 @@ impl<E: Payload, T: Time, S: Store> Session<E, T, S> {
     pub fn answer(&mut self, item: Item) -> Option<Line>
         requires { Stands E.Effect T.Time S.Store self.old.ledger }
         ensures stands { Stands E.Effect T.Time S.Store self.new.ledger }
-        ensures hears { Hears E.Effect T.Time S.Store (said E.Payload.entered (forms E.Payload T.Time) (held item.entry)) result self.old.ledger self.new.ledger }
+        ensures hears { Hears E.Effect T.Time S.Store (said E.Payload.entered (forms E.Payload.own T.Time) (held item.entry)) result self.old.ledger self.new.ledger }
         ensures short { length (written result) ≤ 9 * (length (bytes_of (held item.entry)) + 1) }
     {
         match item {
@@ -128,7 +128,7 @@ impl<E: Payload, T: Time, S: Store> Session<E, T, S> {
         requires stands { Stands E.Effect T.Time S.Store self.old.ledger }
         requires room { vec_len out.old + 9 * length (joined_lines (unread reader.old)) ≤ vec_capacity out.old }
         ensures stands { Stands E.Effect T.Time S.Store self.new.ledger }
-        ensures served { Served E.Payload E.Effect T.Time (unread reader.old) out.old.items out.new.items (shown E.Effect T.Time S.Store self.old.ledger) (shown E.Effect T.Time S.Store self.new.ledger) }
+        ensures served { Served E.Payload.own E.Effect T.Time (unread reader.old) out.old.items out.new.items (shown E.Effect T.Time S.Store self.old.ledger) (shown E.Effect T.Time S.Store self.new.ledger) }
     {
         while let Some(item) = reader.next_item() {
             let answer = self.answer(item);

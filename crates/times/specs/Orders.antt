@@ -20,3 +20,6 @@ same_layers a b p q = grind (arith, nat_tests, ints)
 
 pub places_tie : (a b : Place) → place_upto a b ≡ true → place_upto b a ≡ true → a ≡ b
 places_tie a b p q = same_place a b (same_jobs a b p q) (same_layers a b p q)
+
+pub places_follow : (a b c : Place) → place_upto a b ≡ true → place_upto b c ≡ true → place_upto a c ≡ true
+places_follow a b c p q = grind (arith, nat_tests, ints)

@@ -11,10 +11,10 @@ pub returns : goal.returns
 returns g c =
     let m = g.S.Store.meaning c.args.store.now in
     let free = claim_accepted m c.args.n c.in_ok-claim.ensures in
-    let all : c.loop-i.-i ≡ c.args.n = omega arith in
+    let all : c.loop-i._i ≡ c.args.n = omega arith in
     record {
       stays = c.loop-i.invariant.0;
       answer = c.in_ok-claim.ensures;
-      after = all_copies m (g.S.Store.meaning c.loop-i.store) c.args.cell c.args.n c.loop-i.-i free all c.loop-i.invariant.1;
+      after = all_copies m (g.S.Store.meaning c.loop-i.store) c.args.cell c.args.n c.loop-i._i free all c.loop-i.invariant.1;
       untouched = search rules;
     }

@@ -36,13 +36,13 @@ impl Time for Clock {
 
     ghost reads = { clock_of };
 
-    ghost total = { first_of (Prim.search rules, Prim.grind (arith, Self.row.coded.inj)) };
+    ghost total = { Prim.search rules };
 
-    ghost transitive = { first_of (Prim.search rules, Prim.grind (arith, Self.row.coded.inj)) };
+    ghost transitive = { Prim.search rules };
 
     ghost antisymmetric = { λ a b p q. clocks_tie a b p q };
 
-    ghost small = { first_of (Prim.search rules, Prim.grind (arith, Self.row.coded.inj)) };
+    ghost small = { Prim.search rules };
 
     ghost back = { λ a. clock_back a };
 

@@ -1,7 +1,7 @@
 // The order of places, and their words.
 ghost use Rattle.std.specs.Prelude.{◌≡◌, Some};
 ghost use Rattle.times.specs.Places.{place_upto, place_word, place_read};
-ghost use Rattle.times.specs.Orders.{places_tie};
+ghost use Rattle.times.specs.Orders.{places_tie, places_follow};
 ghost use Rattle.times.specs.Words.{place_small, place_back, place_from};
 ghost use Rattle.std.proofs.Common.{rules, arith};
 
@@ -26,9 +26,9 @@ impl Time for Place {
 
     ghost reads = { place_read };
 
-    ghost total = { first_of (Prim.search rules, Prim.grind (arith, Self.row.coded.inj)) };
+    ghost total = { Prim.search rules };
 
-    ghost transitive = { first_of (Prim.search rules, Prim.grind (arith, Self.row.coded.inj)) };
+    ghost transitive = { λ a b c p q. places_follow a b c p q };
 
     ghost antisymmetric = { λ a b p q. places_tie a b p q };
 

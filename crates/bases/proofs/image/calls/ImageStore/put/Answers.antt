@@ -21,7 +21,7 @@ invariant_of-self c =
     let image = c.args.self.now in
     let long = length_cells_in image.len image.bytes.items in
     let room = room_granted (image_meaning image) 1 (claim_accepted (image_meaning image) 1 c.in_ok-claim.ensures) in
-    (omega arith, (omega arith, (omega arith, tt)))
+    record { within = omega arith; room = omega arith; small = omega arith }
 
 pub returns : goal.returns
 returns c =
@@ -33,7 +33,7 @@ returns c =
     let wrote : after ≡ overwritten bytes (image.len * cell_width) (layout cell) =
     with_items_is image.bytes c.write_cell.new.bytes (omega arith)
     ∙ c.write_cell.ensures.value
-    ∙ ap (λ (bs : List ℕ). overwritten bs (image.len * cell_width) (layout cell)) c.deref-mut.ensures.value in
+    ∙ ap (λ (bs : List ℕ). overwritten bs (image.len * cell_width) (layout cell)) c.deref_mut.ensures.value in
     let within : image.len * cell_width ≤ length bytes = omega arith in
     let back = c.write_cell.ensures.back in
     record {
