@@ -2,7 +2,7 @@
 use std::env;
 
 fn main() {
-    for (variable, library) in [("PROVED_LIB", "bench_calls"), ("C_LIB", "rattle_c")] {
+    for (variable, library) in [("PROVED_LIB", "bench_calls"), ("C_LIB", "libc_c")] {
         let folder = env::var(variable).expect("bench/run says where the libraries are");
         println!("cargo:rerun-if-env-changed={variable}");
         println!("cargo:rerun-if-changed={folder}/lib{library}.a");

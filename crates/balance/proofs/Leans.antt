@@ -1,5 +1,5 @@
 -- How two sides whose heights differ by two are joined.
-use Rattle.std.proofs.Common.{◌≡◌, ℕ, ◌+◌, ◌-◌, ◌<◌, ◌≤◌, max, List, [], ◌∷◌, ◌++◌, length, Ok, Err, Result, sym, refl, ap, ◌∙◌, subst, append_assoc, arith}
+use Rattle.std.proofs.Common.{◌≡◌, ◌<◌, ◌≤◌, Ok, Result, sym, refl, ap, subst, append_assoc, arith}
 use Rattle.effects.specs.declared.Effect as effect
 use Rattle.times.specs.declared.Time as time
 use Rattle.reference.specs.declared.Operation.{Operation}
@@ -7,8 +7,8 @@ use Rattle.store.specs.declared.fault.Fault.{Fault}
 use Rattle.store.specs.Meaning.{Meaning}
 use Rattle.tree.specs.declared.Side.{Side}
 use Rattle.tree.specs.declared.Parts.{Parts}
-use Rattle.tree.specs.Trees.{Tree, leaf, node, height, operations, side, Kept}
-use Rattle.tree.specs.Making.{Room, Made, Sides, Opens, level, evenness}
+use Rattle.tree.specs.Trees.{leaf, node, height, side}
+use Rattle.tree.specs.Making.{Opens}
 use Rattle.tree.proofs.Makings.{made_as, opened_as}
 use Rattle.balance.specs.Turning.{NestsRight, NestsLeft, PartsMiddle, LeansLeft, LeansRight}
 

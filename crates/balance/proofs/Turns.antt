@@ -1,5 +1,5 @@
 -- What one join after another makes.
-use Rattle.std.proofs.Common.{◌≡◌, ℕ, ◌+◌, ◌-◌, ◌<◌, ◌≤◌, max, List, [], ◌∷◌, ◌++◌, length, Ok, Err, Result, sym, refl, ap, ◌∙◌, arith}
+use Rattle.std.proofs.Common.{◌≡◌, ◌+◌, ◌≤◌, max, ◌∷◌, ◌++◌, Ok, Err, Result, refl, ap, arith}
 use Rattle.effects.specs.declared.Effect as effect
 use Rattle.times.specs.declared.Time as time
 use Rattle.reference.specs.declared.Operation.{Operation}
@@ -8,7 +8,7 @@ use Rattle.store.specs.Meaning.{Meaning}
 use Rattle.tree.specs.declared.Side.{Side}
 use Rattle.tree.specs.declared.Parts.{Parts}
 use Rattle.tree.specs.Trees.{Tree, height, operations, side, Kept}
-use Rattle.tree.specs.Making.{Room, Made, Sides, Joins, level, evenness}
+use Rattle.tree.specs.Making.{Room, Made, Joins}
 use Rattle.tree.proofs.Keeping.{refused, same_answer, still, room_left}
 use Rattle.tree.proofs.Makings.{made_as, then_made}
 use Rattle.balance.specs.Turning.{NestsRight, NestsLeft, JoinsPairs}

@@ -1,14 +1,11 @@
 -- The exits of the functions that read a body, each as what the definition answers there.
-use Rattle.std.proofs.Common.{◌≡◌, ℕ, ◌+◌, ◌*◌, ◌≤◌, eqb, List, [], ◌∷◌, length, get_or, take, drop, Some, None, Ok, Err, Option, Result, sym, refl, ap, ◌∙◌, arith}
+use Rattle.std.proofs.Common.{◌≡◌, ℕ, ◌+◌, ◌*◌, List, [], ◌∷◌, length, get_or, Some, Ok, ap, ◌∙◌, arith}
 use Rattle.std.specs.Option.{ok_or}
-use Rattle.std.proofs.lemmas.Bool.{eq-eqb, ne_eqb, cond-true, cond-false}
 use Rattle.big_endian.specs.Numbers.{worth}
-use Rattle.text.specs.declared.flaw.Flaw.{Flaw}
-use Rattle.text.specs.declared.flaw.Flaw.TheVariants.{WrongLength, NoTime, OutOfRange}
+use Rattle.text.specs.declared.flaw.Flaw.TheVariants.{OutOfRange}
 use Rattle.commands.specs.declared.command.EffectKind.{EffectKind}
 use Rattle.commands.specs.declared.command.TimeKind.{TimeKind}
-use Rattle.commands.specs.declared.command.Opening.{Opening}
-use Rattle.commands.specs.Frames.{Forms, and_then, of_length, effect_kind, time_kind, opening_of, number_of, entry_of, question_of}
+use Rattle.commands.specs.Frames.{and_then, effect_kind, time_kind, opening_of}
 
 pub opening_read : (q : ℕ) (e : EffectKind) (t : TimeKind) (body : List ℕ) → length body ≡ 4 → Some e ≡ effect_kind (get_or body 0 0) → Some t ≡ time_kind (get_or body 1 0) →
     q ≡ get_or body 2 0 * 256 + get_or body 3 0 → Ok (record { effects = e; times = t; quota = q }) ≡ opening_of body

@@ -1,5 +1,5 @@
 -- The place of every refusal of a line is at most 64.
-use Rattle.std.proofs.Common.{◌≡◌, ℕ, suc, ◌+◌, ◌*◌, ◌%◌, ◌<◌, ◌≤◌, Bool, true, false, cond, eqb, ltb, List, [], ◌∷◌, length, get_or, take, drop, is_some, Some, None, Ok, Err, Option, Result, sym, refl, ap, ◌∙◌, subst, arith}
+use Rattle.std.proofs.Common.{◌≡◌, ℕ, suc, ◌+◌, ◌*◌, ◌%◌, ◌<◌, ◌≤◌, Bool, true, false, cond, eqb, ltb, List, [], ◌∷◌, length, get_or, take, drop, is_some, Some, None, Ok, Err, Option, Result, sym, refl, subst, arith}
 use Rattle.std.specs.Option.{ok_or}
 use Rattle.std.specs.Result.{result_and}
 use Rattle.std.proofs.lemmas.Bool.{ltb-false}
@@ -9,8 +9,6 @@ use Rattle.text.specs.declared.flaw.Flaw.TheVariants.{LongLine, NoDigit, OddLeng
 use Rattle.text.specs.Flaws.{number_and_place}
 use Rattle.digits.specs.Hex.{digit, no_digit, refused_at, checked, paired, decoded}
 use Rattle.digits.proofs.Round.{half_read, accepted_short}
-use Rattle.commands.specs.declared.command.Command.{Command}
-use Rattle.commands.specs.declared.command.Command.TheVariants.{Open, Enter, Withdraw, State, Latest, Count}
 use Rattle.commands.specs.Frames.{Forms, and_then, of_length, effect_kind, time_kind, opening_of, number_of, entry_of, question_of, command_of, command_in, command}
 
 -- whatever refuses has a place of at most 64

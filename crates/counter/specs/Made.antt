@@ -1,5 +1,5 @@
 -- `level_of` and `counter_of` give the level and the counter of their numbers wherever there is one.
-use Rattle.std.specs.Prelude.{◌≡◌, ℕ, ◌≤◌, ℤ, pos, negsuc, ◌≤ℤ◌, Some, None, Option, int_le, nat_le, refl}
+use Rattle.std.specs.Prelude.{◌≡◌, ℕ, ◌≤◌, ℤ, pos, negsuc, Some, None, Option, int_le, nat_le, refl}
 use Rattle.std.proofs.Common.{sym, ap, ◌∙◌, arith, le→leb}
 use Rattle.words.proofs.Giving.{given_passed, given_some, none_where, some_same}
 use Rattle.counter.specs.Counting.{level_of, InBounds, counter_of}

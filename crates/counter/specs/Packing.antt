@@ -1,5 +1,5 @@
 -- The words of a counter and of a level.
-use Rattle.std.specs.Prelude.{ℕ, ◌+◌, ◌*◌, ◌/◌, ◌%◌, ◌^◌, cond, pos, negsuc, ◌+ℤ◌, None, Option, ◌==◌, unsigned_abs}
+use Rattle.std.specs.Prelude.{◌+◌, ◌*◌, ◌/◌, ◌%◌, ◌^◌, cond, pos, negsuc, ◌+ℤ◌, None, Option, ◌==◌, unsigned_abs}
 use Rattle.words.specs.declared.EffectWords.{EffectWords}
 use Rattle.words.specs.declared.StateWords.{StateWords}
 use Rattle.counter.specs.Counting.{counter_of}

@@ -1,5 +1,5 @@
 -- Bytes written as digits read back as the bytes, and digits that are read are written again as they were.
-use Rattle.std.proofs.Common.{◌≡◌, ℕ, zero, suc, ◌+◌, ◌*◌, ◌/◌, ◌%◌, ◌<◌, ◌≤◌, Bool, true, false, cond, eqb, List, [], ◌∷◌, length, get_or, take, is_some, Some, None, Ok, Err, Option, Result, unwrap_or, sym, refl, ap, ◌∙◌, subst, arith, w8, Fits}
+use Rattle.std.proofs.Common.{◌≡◌, ℕ, zero, suc, ◌+◌, ◌*◌, ◌/◌, ◌%◌, ◌<◌, ◌≤◌, cond, eqb, List, [], ◌∷◌, length, get_or, take, is_some, Some, None, Ok, Err, Option, Result, unwrap_or, sym, refl, ap, ◌∙◌, subst, arith, w8, Fits}
 use Rattle.std.specs.Int.Digits.{AllBelowBase}
 use Rattle.std.specs.Result.{result_and}
 use Rattle.std.proofs.lemmas.Bool.Decides.{nat_tests}
@@ -23,7 +23,7 @@ digit_below c v e = grind (arith, nat_tests)
 value_digit : (v : ℕ) → v < 16 → value (digit_of v) ≡ v
 value_digit v h = ap (λ o. unwrap_or o 0) (digit_digit v h)
 
-length_encoded : (bs : List ℕ) → length (encoded bs) ≡ 2 * length bs
+pub length_encoded : (bs : List ℕ) → length (encoded bs) ≡ 2 * length bs
 length_encoded [] = refl
 length_encoded (b ∷ bs) = let e = length_encoded bs in omega arith
 

@@ -1,5 +1,5 @@
 -- Joining when one side has grown: the turn, if one is wanted, brings the height back.
-use Rattle.std.proofs.Common.{◌≡◌, ℕ, ◌+◌, ◌-◌, ◌*◌, ◌<◌, ◌≤◌, min, max, List, [], ◌∷◌, ◌++◌, length, Ok, Result, sym, refl, ap, ◌∙◌, subst, arith}
+use Rattle.std.proofs.Common.{◌+◌, ◌≤◌, max, ◌∷◌, ◌++◌, Ok, Result, refl, ap, arith}
 use native.Mathlib.Decide.{dec_le}
 use Rattle.effects.specs.declared.Effect as effect
 use Rattle.times.specs.declared.Time as time
@@ -9,7 +9,7 @@ use Rattle.store.specs.declared.fault.Fault.{Fault}
 use Rattle.store.specs.Meaning.{Meaning}
 use Rattle.tree.specs.declared.Side.{Side}
 use Rattle.tree.specs.Trees.{Tree, height, operations, side, Kept}
-use Rattle.tree.specs.Making.{Room, Made, Sides, Joins, level, evenness}
+use Rattle.tree.specs.Making.{Room, Made, Joins}
 use Rattle.tree.proofs.Keeping.{same_answer, still, room_left}
 use Rattle.tree.proofs.Makings.{then_made, level_small}
 use Rattle.balance.specs.Turning.{LeansLeft, LeansRight}

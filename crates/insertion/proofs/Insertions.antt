@@ -1,5 +1,5 @@
 -- What each way through an insertion makes.
-use Rattle.std.proofs.Common.{◌≡◌, ℕ, ◌+◌, ◌-◌, ◌*◌, ◌<◌, ◌≤◌, min, max, true, false, List, [], ◌∷◌, ◌++◌, Ok, Err, Result, sym, refl, ap, ◌∙◌, subst, arith}
+use Rattle.std.proofs.Common.{◌≡◌, ℕ, true, false, ◌∷◌, Ok, Err, Result, sym, refl, subst, arith}
 use Rattle.effects.specs.declared.Effect as effect
 use Rattle.times.specs.declared.Time as time
 use Rattle.reference.specs.declared.Operation.{Operation}
@@ -12,7 +12,7 @@ use Rattle.order.proofs.Splits.{sorted_left, sorted_right, entered_left, entered
 use Rattle.tree.specs.declared.Side.{Side}
 use Rattle.tree.specs.declared.Parts.{Parts}
 use Rattle.tree.specs.Trees.{Tree, leaf, node, root, height, operations, side, Kept}
-use Rattle.tree.specs.Making.{Room, Made, Sides, Joins, Opens, level, evenness}
+use Rattle.tree.specs.Making.{Room, Made, Joins, Opens}
 use Rattle.tree.proofs.Keeping.{refused}
 use Rattle.tree.proofs.Makings.{made_as, opened_as}
 use Rattle.balance.specs.Turning.{LeansLeft, LeansRight}

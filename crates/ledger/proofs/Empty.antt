@@ -1,10 +1,9 @@
 -- A ledger just opened stands, and shows belief 0 alone.
-use Rattle.std.proofs.Common.{◌≡◌, ℕ, ◌<◌, ◌≤◌, List, [], ◌∷◌, length, get_or, replicate, None, sym, refl, subst, arith}
+use Rattle.std.proofs.Common.{ℕ, ◌≤◌, List, get_or, replicate, None, sym, refl, subst, arith}
 use Rattle.std.proofs.lemmas.List.{get_or-replicate}
 use Rattle.effects.specs.declared.Effect as effect
 use Rattle.times.specs.declared.Time as time
 use Rattle.cells.specs.declared.Cell.{Cell}
-use Rattle.questions.specs.Standing.{Standing}
 use Rattle.tree.specs.Trees.{leaf}
 use Rattle.ledger.specs.declared.Row.{Row}
 use Rattle.ledger.specs.Shown.{RowStands}

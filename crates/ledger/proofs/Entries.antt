@@ -1,12 +1,12 @@
 -- An entry, from what its insertion made.
-use Rattle.std.proofs.Common.{◌≡◌, ℕ, ◌+◌, ◌<◌, ◌≤◌, List, ◌++◌, length, get_or, Some, None, Ok, Err, Option, Result, sym, refl, ap, ◌∙◌, subst, arith}
+use Rattle.std.proofs.Common.{◌≡◌, ℕ, ◌+◌, ◌<◌, ◌≤◌, get_or, Some, None, Ok, Option, Result, sym, refl, ap, ◌∙◌, subst, arith}
 use Rattle.effects.specs.declared.Effect as effect
 use Rattle.times.specs.declared.Time as time
 use Rattle.store.specs.declared.Store as store
 use Rattle.store.specs.declared.fault.Fault.{Fault}
 use Rattle.store.specs.Meaning.{Meaning, fault_of, unless, claimed}
 use Rattle.reference.specs.declared.Operation.{Operation}
-use Rattle.reference.specs.Beliefs.{Belief, kinds, entered, count}
+use Rattle.reference.specs.Beliefs.{kinds, entered, count}
 use Rattle.calls.specs.declared.call.Call.TheVariants.{Enter}
 use Rattle.calls.specs.Verdict.{latest_belief, granted}
 use Rattle.order.specs.Order.{Below}
@@ -23,7 +23,7 @@ use Rattle.ledger.proofs.Lasting.{Entered}
 use Rattle.ledger.proofs.NewRows.{entry_stands}
 use Rattle.ledger.proofs.Showing.{latest_at, entry_verdict}
 use Rattle.ledger.proofs.Asked.{over}
-use Rattle.ledger.proofs.Putting.{grown, stands_put, cells_put}
+use Rattle.ledger.proofs.Putting.{cells_put}
 use Rattle.ledger.proofs.Empty.{empty}
 
 pub claim_none : (m : Meaning) (n : ℕ) → claimed m n ≡ Ok tt → fault_of m n ≡ None

@@ -1,6 +1,5 @@
 -- The row of a new belief stands.
-use Rattle.std.proofs.Common.{◌≡◌, ℕ, suc, ◌+◌, ◌-◌, ◌<◌, ◌≤◌, Bool, true, false, not, ◌&&◌, ◌||◌, eqb, ltb, List, [], ◌∷◌, ◌++◌, length, get_or, set, Some, None, filter, sym, refl, ap, ◌∙◌, subst, ⊎_elim, arith}
-use Rattle.std.specs.List.{AllByRecursion as All}
+use Rattle.std.proofs.Common.{◌≡◌, ℕ, ◌+◌, ◌<◌, ◌≤◌, not, eqb, List, length, get_or, set, Some, sym, ap, ◌∙◌, subst, ⊎_elim, arith}
 use Rattle.std.proofs.lemmas.List.{get_or-set_same, get_or-set_other}
 use Rattle.std.proofs.lemmas.Bool.{cases_eq, cases_lt}
 use Rattle.std.proofs.ByRecursion.{all_kept_by}
@@ -8,7 +7,7 @@ use Rattle.effects.specs.declared.Effect as effect
 use Rattle.times.specs.declared.Time as time
 use Rattle.cells.specs.declared.Cell.{Cell}
 use Rattle.reference.specs.declared.Operation.{Operation}
-use Rattle.reference.specs.Beliefs.{Kinds, Belief, kinds, before, entered, without, count}
+use Rattle.reference.specs.Beliefs.{Belief, kinds, entered, without, count}
 use Rattle.order.specs.Order.{Below}
 use Rattle.order.proofs.Stays.{all_entered, below_entered, below_more, below_without}
 use Rattle.questions.specs.Standing.{Standing}

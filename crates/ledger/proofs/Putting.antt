@@ -4,7 +4,7 @@ use Rattle.std.proofs.lemmas.List.{length-append, length-set}
 use Rattle.effects.specs.declared.Effect as effect
 use Rattle.times.specs.declared.Time as time
 use Rattle.store.specs.declared.Store as store
-use Rattle.store.specs.Meaning.{Meaning, claimed, with_cells}
+use Rattle.store.specs.Meaning.{claimed, with_cells}
 use Rattle.cells.specs.declared.Cell.{Cell}
 use Rattle.reference.specs.Beliefs.{Belief, kinds, count}
 use Rattle.calls.specs.declared.call.Call.{Call}

@@ -1,5 +1,5 @@
 -- What a ledger shows is answered and changed as the reference ledger's beliefs are.
-use Rattle.std.proofs.Common.{◌≡◌, ℕ, ◌+◌, ◌-◌, ◌<◌, ◌≤◌, true, false, List, [], ◌∷◌, ◌++◌, map, length, get_or, take, set, Some, None, Ok, Err, Result, sym, refl, ap, ◌∙◌, subst, arith}
+use Rattle.std.proofs.Common.{◌≡◌, ℕ, ◌+◌, ◌-◌, ◌<◌, ◌≤◌, true, false, List, [], ◌∷◌, ◌++◌, length, get_or, None, Ok, Err, Result, sym, refl, ap, ◌∙◌, subst, arith}
 use Rattle.std.proofs.lemmas.List.{length-append}
 use Rattle.std.proofs.lemmas.Bool.{cond-true, cond-false}
 use Rattle.effects.specs.declared.Effect as effect
@@ -14,10 +14,10 @@ use Rattle.calls.specs.declared.call.Call.TheVariants.{Enter, Withdraw}
 use Rattle.calls.specs.declared.answer.Answer.TheVariants.{Changed}
 use Rattle.calls.specs.declared.refusal.Refusal.{Refusal}
 use Rattle.calls.specs.declared.refusal.Refusal.TheVariants.{Full, NoOperation, NoBelief, Store}
-use Rattle.calls.specs.Verdict.{Beliefs, asked, has, latest_number, latest_belief, Verdict, keeps, makes, granted, verdict, claim_of}
+use Rattle.calls.specs.Verdict.{Beliefs, asked, has, latest_belief, Verdict, keeps, makes, granted, verdict, claim_of}
 use Rattle.calls.proofs.Deciding.{asked_found, asked_none, not_full, full}
 use Rattle.tree.specs.Reading.{read_from}
-use Rattle.law.specs.Runs.{Reply, View, Grows, Outcome, Step}
+use Rattle.law.specs.Runs.{View, Grows, Outcome, Step}
 use Rattle.ledger.specs.declared.Row.{Row}
 use Rattle.ledger.specs.Shown.{beliefs_of, view_of}
 use Rattle.ledger.proofs.Rows.{length_rows, row_at}

@@ -1,11 +1,11 @@
 -- A withdrawal, from what its removal made.
-use Rattle.std.proofs.Common.{◌≡◌, ℕ, ◌+◌, ◌<◌, ◌≤◌, true, List, ◌++◌, length, get_or, Some, None, Ok, Option, Result, sym, refl, ap, ◌∙◌, subst, arith}
+use Rattle.std.proofs.Common.{◌≡◌, ℕ, ◌+◌, ◌<◌, true, get_or, Some, None, Ok, Option, Result, sym, ap, ◌∙◌, subst, arith}
 use Rattle.effects.specs.declared.Effect as effect
 use Rattle.times.specs.declared.Time as time
 use Rattle.store.specs.declared.Store as store
 use Rattle.store.specs.declared.fault.Fault.{Fault}
 use Rattle.store.specs.Meaning.{claimed}
-use Rattle.reference.specs.Beliefs.{Belief, kinds, without, count}
+use Rattle.reference.specs.Beliefs.{kinds, without, count}
 use Rattle.calls.specs.declared.call.Call.TheVariants.{Withdraw}
 use Rattle.calls.specs.Verdict.{has, latest_belief, granted}
 use Rattle.order.specs.Order.{Timed, Sorted, struck}
@@ -16,9 +16,8 @@ use Rattle.questions.specs.Standing.{Standing}
 use Rattle.questions.proofs.Stands.{standing_reads}
 use Rattle.removal.specs.Removing.{Removed}
 use Rattle.tree.specs.Reading.{read_from}
-use Rattle.ledger.specs.declared.Row.{Row}
 use Rattle.ledger.specs.declared.Ledger.{Ledger}
-use Rattle.ledger.specs.Shown.{RowStands, shown, Stands}
+use Rattle.ledger.specs.Shown.{shown, Stands}
 use Rattle.ledger.specs.Changing.{Next, Put}
 use Rattle.ledger.proofs.NewRows.{withdrawal_stands}
 use Rattle.ledger.proofs.Showing.{withdrawal_verdict}

@@ -1,5 +1,5 @@
 -- `before` is an order where times are in one, and what stands at a number and a time is what neither side of it is before.
-use Rattle.std.proofs.Common.{◌≡◌, ℕ, ◌<◌, ◌≤◌, Bool, true, false, cond, not, ◌&&◌, ◌||◌, eqb, ltb, ◌⊎◌, sym, refl, ap, ◌∙◌, inl, inr, ⊎_elim, arith}
+use Rattle.std.proofs.Common.{◌≡◌, ◌<◌, ◌≤◌, Bool, true, false, not, ◌&&◌, ◌||◌, eqb, ltb, ◌⊎◌, inl, inr, ⊎_elim, arith}
 use Rattle.std.proofs.lemmas.Bool.{both_ways, not-true, not-false, ltb-true, ltb-false, lt-ltb, eq-eqb, ne_eqb, and_parts, and_cases, and_from, and_left, and_right, or_cases, or_parts, or_left, or_right, not_from_false, cases_Bool}
 use Rattle.reference.specs.declared.Operation.{Operation}
 use Rattle.reference.specs.Beliefs.{Kinds, before}

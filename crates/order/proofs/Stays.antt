@@ -1,8 +1,8 @@
 -- What a change of a belief keeps: its order, the numbers below a number, and the times by number.
-use Rattle.std.proofs.Common.{◌≡◌, ℕ, ◌+◌, ◌<◌, ◌≤◌, Bool, true, false, cond, not, ◌&&◌, ◌||◌, eqb, List, [], ◌∷◌, ◌++◌, length, filter, sym, refl, ap, ◌∙◌, subst, ⊎_elim, arith}
+use Rattle.std.proofs.Common.{◌≡◌, ℕ, ◌+◌, ◌<◌, ◌≤◌, Bool, true, cond, not, ◌&&◌, eqb, List, [], ◌∷◌, length, filter, sym, refl, ap, ◌∙◌, ⊎_elim, arith}
 use Rattle.std.specs.List.{AllByRecursion as All}
 use Rattle.std.proofs.ByRecursion.{All-weaker, all_kept_by}
-use Rattle.std.proofs.lemmas.Bool.{cond_both, both_ways, eqb-true, and_left, and_from, cases_Bool, or_cases}
+use Rattle.std.proofs.lemmas.Bool.{cond_both, eqb-true, and_left, and_from, cases_Bool, or_cases}
 use Rattle.reference.specs.declared.Operation.{Operation}
 use Rattle.reference.specs.Beliefs.{Kinds, Belief, before, entered, without}
 use Rattle.order.specs.Order.{Below, Timed, Sorted, is_at, struck}

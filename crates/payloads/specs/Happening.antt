@@ -1,5 +1,5 @@
 -- An event's byte is read as it, and only it is.
-use Rattle.std.specs.Prelude.{◌≡◌, ℕ, zero, suc, List, [], ◌∷◌, ◌++◌, take, Some, refl}
+use Rattle.std.specs.Prelude.{◌≡◌, ℕ, zero, suc, List, [], ◌∷◌, take, Some, refl}
 use Rattle.std.proofs.Common.{ap, arith}
 use Rattle.status.specs.declared.Event.{Event}
 use Rattle.status.specs.declared.Event.TheVariants.{PowerOn, PowerOff, Heat, Start, Pause, Resume, EndOfJob, Cooled, IntoService, OutOfService, Fault}

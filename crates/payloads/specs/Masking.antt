@@ -1,13 +1,12 @@
 -- Settings' bytes are read as they are, whatever follows them, and only they are.
-use Rattle.std.specs.Prelude.{◌≡◌, ℕ, zero, suc, ◌+◌, ◌*◌, ◌^◌, ◌<◌, ◌≤◌, Bool, true, false, cond, T, List, [], ◌∷◌, ◌++◌, length, take, drop, Some, None, Option, nat_le, refl}
-use Rattle.std.proofs.Common.{sym, ap, subst, ◌∙◌, append_assoc, arith, le→leb, leb→le, length-drop, length-append, take-append-drop}
+use Rattle.std.specs.Prelude.{◌≡◌, ℕ, zero, suc, ◌+◌, ◌*◌, ◌^◌, ◌<◌, ◌≤◌, Bool, true, false, T, List, [], ◌∷◌, ◌++◌, length, take, drop, Some, None, Option, nat_le, refl}
+use Rattle.std.proofs.Common.{sym, ap, ◌∙◌, append_assoc, arith, le→leb, leb→le, length-drop, length-append, take-append-drop}
 use Rattle.std.specs.Int.Bits.{bit_and}
 use Rattle.std.specs.Int.Count.{ones}
 use Rattle.std.specs.Int.Digits.{AllBelowBase}
 use Rattle.std.proofs.ByRecursion.{All-drop}
 use Rattle.words.specs.Given.{given}
 use Rattle.words.proofs.Giving.{given_passed, given_failed, given_some}
-use Rattle.big_endian.specs.Numbers.{bytes_of, worth}
 use Rattle.big_endian.proofs.Numbering.{worth_bytes}
 use Rattle.settings.specs.Masks.{masked}
 use Rattle.settings.specs.Overwriting.{settings_of}

@@ -11,7 +11,7 @@ use Rattle.order.specs.Order.{Sorted, has}
 use Rattle.order.proofs.Orders.{TimeLaws}
 use Rattle.order.proofs.Splits.{sorted_left, sorted_right, until_right, until_left, has_right, has_on_left, has_here}
 use Rattle.tree.specs.declared.Node.{Node}
-use Rattle.tree.specs.Trees.{Tree, leaf, node, root, operations, side, node_of, Kept}
+use Rattle.tree.specs.Trees.{Tree, leaf, node, operations, side, node_of, Kept}
 use Rattle.tree.specs.Making.{Reads}
 use Rattle.tree.proofs.Keeping.{refused, same_answer}
 use Rattle.tree.proofs.Makings.{read_as}

@@ -3,14 +3,13 @@ use Rattle.std.proofs.Common.{◌≡◌, ℕ, List, ◌++◌, Some, Ok, Result, 
 use Rattle.effects.specs.declared.Effect as effect
 use Rattle.times.specs.declared.Time as time
 use Rattle.cells.specs.declared.Cell.{Cell}
-use Rattle.reference.specs.Beliefs.{Belief, kinds}
+use Rattle.reference.specs.Beliefs.{Belief}
 use Rattle.store.specs.declared.fault.Fault.{Fault}
 use Rattle.store.specs.Meaning.{Meaning}
-use Rattle.order.specs.Order.{Sorted}
-use Rattle.tree.specs.Trees.{root, height, operations}
+use Rattle.tree.specs.Trees.{height, operations}
 use Rattle.tree.specs.Reading.{read_from, height_at}
 use Rattle.tree.proofs.Keeping.{kept_more}
-use Rattle.tree.proofs.Readings.{reads_kept, reads_later, height_kept}
+use Rattle.tree.proofs.Readings.{reads_kept, height_kept}
 use Rattle.questions.specs.Standing.{Standing}
 use Rattle.questions.specs.Asking.{Answers}
 

@@ -1,5 +1,5 @@
 -- A total acts as its operations one after another, so a descent may take whole sides by theirs.
-use Rattle.std.proofs.Common.{◌≡◌, ℕ, true, ◌∷◌, ◌++◌, Some, None, Ok, fold, Option, Result, sym, refl, ap, ◌∙◌, subst}
+use Rattle.std.proofs.Common.{◌≡◌, ℕ, true, ◌∷◌, Some, None, Ok, fold, Option, Result, sym, refl, ap, ◌∙◌, subst}
 use Rattle.effects.specs.declared.Effect as effect
 use Rattle.times.specs.declared.Time as time
 use Rattle.reference.specs.Beliefs.{kinds, until}

@@ -1,5 +1,5 @@
 -- What a removal gives its caller: a standing tree, read from the cells.
-use Rattle.std.proofs.Common.{◌≡◌, ℕ, ◌+◌, ◌-◌, ◌*◌, ◌<◌, ◌≤◌, max, Bool, true, false, not, length, Some, None, Ok, Err, Result, sym, refl, ap, ◌∙◌, subst, arith}
+use Rattle.std.proofs.Common.{◌≡◌, ℕ, ◌≤◌, Bool, true, false, not, length, Some, None, Ok, Err, Result, sym, refl, ap, ◌∙◌, subst, arith}
 use Rattle.std.proofs.lemmas.Bool.{both_ways}
 use Rattle.effects.specs.declared.Effect as effect
 use Rattle.times.specs.declared.Time as time
@@ -11,7 +11,7 @@ use Rattle.order.specs.Order.{Sorted, is_at, struck}
 use Rattle.order.proofs.Orders.{TimeLaws}
 use Rattle.order.proofs.Stays.{sorted_kept}
 use Rattle.tree.specs.declared.Side.{Side}
-use Rattle.tree.specs.Trees.{Tree, root, height, operations}
+use Rattle.tree.specs.Trees.{root, height, operations}
 use Rattle.tree.specs.Reading.{read_from, height_at}
 use Rattle.tree.specs.Making.{Room, Made}
 use Rattle.tree.proofs.Keeping.{refused, same_answer, room_from}

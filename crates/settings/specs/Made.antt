@@ -1,5 +1,5 @@
 -- `settings_of` gives the settings of a mask and values wherever there are any.
-use Rattle.std.specs.Prelude.{◌≡◌, ℕ, ◌<◌, Bool, true, false, ◌||◌, T, Some, None, Option, ◌==◌, nat_lt, refl}
+use Rattle.std.specs.Prelude.{◌≡◌, ℕ, Bool, true, false, ◌||◌, T, Some, None, Option, ◌==◌, nat_lt, refl}
 use Rattle.std.proofs.Common.{sym, ap, ◌∙◌, lt→ltb, eq-eqb}
 use Rattle.words.proofs.Giving.{given_passed, given_some, none_where, some_same}
 use Rattle.settings.specs.Masks.{masked}

@@ -1,5 +1,5 @@
 -- The words of settings and of a set-up.
-use Rattle.std.specs.Prelude.{ℕ, ◌+◌, ◌*◌, ◌/◌, ◌%◌, ◌^◌, ◌<◌, T, Option, nat_lt}
+use Rattle.std.specs.Prelude.{ℕ, ◌+◌, ◌*◌, ◌/◌, ◌%◌, ◌^◌, T, Option, nat_lt}
 use Rattle.std.proofs.Common.{arith, ltb→lt}
 use Rattle.words.specs.Given.{given}
 use Rattle.words.specs.declared.EffectWords.{EffectWords}

@@ -1,5 +1,5 @@
 -- The words of settings read back as them, and only they do; no two set-ups share a word.
-use Rattle.std.specs.Prelude.{◌≡◌, ℕ, ◌+◌, ◌*◌, ◌/◌, ◌%◌, ◌^◌, ◌<◌, T, Some, None, Option, nat_lt, refl}
+use Rattle.std.specs.Prelude.{◌≡◌, ℕ, ◌/◌, ◌%◌, ◌^◌, ◌<◌, T, Some, None, nat_lt, refl}
 use Rattle.std.proofs.Common.{sym, ap, ◌∙◌, arith, lt→ltb}
 use Rattle.words.specs.declared.EffectWords.{EffectWords}
 use Rattle.words.proofs.Giving.{given_passed, given_some, none_where, same_effect_words}
@@ -7,7 +7,7 @@ use Rattle.settings.specs.Overwriting.{settings_of}
 use Rattle.settings.specs.Packing.{setup_word, setup_of, settings_words, settings_read}
 use Rattle.settings.specs.declared.Setup.{Setup}
 use Rattle.settings.specs.declared.Settings.{Settings}
-use Rattle.settings.specs.Sames.{same_setup, same_settings}
+use Rattle.settings.specs.Sames.{same_setup}
 use Rattle.settings.specs.Made.{settings_back, settings_from}
 
 setup_small : (s : Setup) → setup_word s < 2 ^ 64

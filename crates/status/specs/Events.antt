@@ -1,5 +1,5 @@
 -- The eleven events, their codes and their transitions.
-use Rattle.std.specs.Prelude.{◌≡◌, ℕ, zero, suc, ◌-◌, List, [], ◌∷◌, map, length, get_or, None, codes, Option, refl}
+use Rattle.std.specs.Prelude.{◌≡◌, ℕ, zero, suc, ◌-◌, List, [], ◌∷◌, map, length, None, codes, Option, refl}
 use Rattle.std.specs.List.{flat_map, slice_get}
 use Rattle.status.specs.Codes.{status_of}
 use Rattle.status.specs.declared.Status.{Status}

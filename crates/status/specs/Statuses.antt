@@ -1,6 +1,6 @@
 -- A status and its code stand for each other, and transitions composed act as the two in turn.
 use Rattle.std.specs.Prelude.{◌≡◌, ℕ, zero, suc, ◌<◌, List, [], ◌∷◌, map, length, slice_index_or, refl}
-use Rattle.std.proofs.Common.{sym, ap, ap₂, ◌∙◌, arith, lit<}
+use Rattle.std.proofs.Common.{ap₂, arith, lit<}
 use Rattle.std.proofs.lemmas.List.{get_or-map}
 use Rattle.status.specs.Codes.{statuses, status_of, code_of}
 use Rattle.status.specs.Turns.{turned, joined}

@@ -1,7 +1,7 @@
 -- The lines of an input, joined again, are the input.
-use Rattle.std.proofs.Common.{◌≡◌, ℕ, ◌+◌, Bool, true, false, cond, eqb, ◌⊎◌, List, [], ◌∷◌, ◌++◌, length, sym, refl, ap, ◌∙◌, subst, inl, inr, ⊎_elim, arith}
+use Rattle.std.proofs.Common.{◌≡◌, ℕ, ◌+◌, eqb, ◌⊎◌, List, [], ◌∷◌, ◌++◌, length, sym, refl, ap, ◌∙◌, subst, inl, inr, ⊎_elim, arith}
 use Rattle.std.proofs.lemmas.Bool.{cases_eq, eq-eqb, ne_eqb, cond-true, cond-false}
-use Rattle.text.specs.Cut.{Line, widened, lines_from, joined_lines, NoNewline, Placed, Whole}
+use Rattle.text.specs.Cut.{Line, widened, lines_from, joined_lines, Placed, Whole}
 
 abbrev Joined : List ℕ → List Line → Type 0
 Joined bs ls = (joined_lines ls ≡ bs) ⊎ (joined_lines ls ≡ bs ++ (10 ∷ []))

@@ -1,5 +1,5 @@
 -- What a reader has yet to read, and what an item holds.
-use Rattle.std.specs.Prelude.{◌≡◌, ℕ, List, [], ◌∷◌, drop, Some, None, Option}
+use Rattle.std.specs.Prelude.{◌≡◌, List, [], ◌∷◌, drop, Some, None, Option}
 use Rattle.text.specs.declared.reader.Item.{Item}
 use Rattle.text.specs.declared.reader.Item.TheVariants.{Remark, Frame}
 use Rattle.text.specs.declared.reader.Reader.{Reader}

@@ -1,5 +1,5 @@
 -- A time's word reads back as it, and no other word does.
-use Rattle.std.specs.Prelude.{◌≡◌, ℕ, suc, ◌+◌, ◌-◌, ◌*◌, ◌/◌, ◌%◌, ◌^◌, ◌<◌, ℤ, pos, negsuc, Some, nat_lt, refl}
+use Rattle.std.specs.Prelude.{◌≡◌, ℕ, suc, ◌-◌, ◌/◌, ◌%◌, ◌^◌, ◌<◌, ℤ, pos, negsuc, Some, nat_lt, refl}
 use Rattle.std.proofs.Common.{sym, ap, ◌∙◌, arith, lt→ltb, lt-ltb, le-ltb}
 use Rattle.std.specs.Int.Signed.{mag}
 use Rattle.std.proofs.Math.Decide.{dec_lt}

@@ -1,14 +1,13 @@
 -- What one new cell over two sides makes.
-use Rattle.std.proofs.Common.{◌≡◌, ℕ, ◌+◌, ◌-◌, ◌<◌, ◌≤◌, max, List, [], ◌∷◌, ◌++◌, length, Some, Ok, Result, sym, refl, ap, ◌∙◌, arith}
+use Rattle.std.proofs.Common.{◌≡◌, ℕ, ◌+◌, ◌≤◌, max, [], ◌∷◌, ◌++◌, length, Some, Ok, Result, refl, arith}
 use Rattle.effects.specs.declared.Effect as effect
 use Rattle.times.specs.declared.Time as time
 use Rattle.reference.specs.declared.Operation.{Operation}
-use Rattle.cells.specs.declared.Cell.{Cell}
 use Rattle.store.specs.declared.fault.Fault.{Fault}
 use Rattle.store.specs.Meaning.{Meaning, with_cells}
 use Rattle.tree.specs.declared.Side.{Side}
 use Rattle.tree.specs.Trees.{Tree, node, height, operations, joined, side, cell_of, Kept}
-use Rattle.tree.specs.Making.{Room, Made, Sides, level, evenness}
+use Rattle.tree.specs.Making.{Made, Sides, level, evenness}
 use Rattle.store.proofs.Finding.{cell_last}
 use Rattle.tree.proofs.Keeping.{kept_more, root_in}
 

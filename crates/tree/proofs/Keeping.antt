@@ -1,17 +1,17 @@
 -- What cells keep, they keep with more cells behind them; what a cell says is read back.
-use Rattle.std.proofs.Common.{◌≡◌, ℕ, zero, suc, ◌+◌, ◌-◌, ◌<◌, ◌≤◌, max, ltb, List, [], ◌∷◌, ◌++◌, length, Some, None, Ok, Err, Option, Result, sym, refl, ap, ◌∙◌, append_assoc, arith, length-append}
+use Rattle.std.proofs.Common.{◌≡◌, ℕ, ◌+◌, ◌<◌, ◌≤◌, List, ◌++◌, length, Some, None, Ok, Err, Option, Result, refl, ap, ◌∙◌, arith}
 use Rattle.std.proofs.lemmas.Bool.Decides.{nat_tests}
 use Rattle.effects.specs.declared.Effect as effect
 use Rattle.times.specs.declared.Time as time
 use Rattle.reference.specs.declared.Operation.{Operation}
 use Rattle.cells.specs.declared.Cell.{Cell}
 use Rattle.store.specs.declared.fault.Fault.{Fault}
-use Rattle.store.specs.Meaning.{Meaning, cell_at, fault_of, unless, claimed, put_answer, with_cells}
+use Rattle.store.specs.Meaning.{Meaning, fault_of, unless, claimed, put_answer, with_cells}
 use Rattle.store.proofs.Finding.{cell_append, cell_within}
 use Rattle.store.proofs.Granting.{with_more}
 use Rattle.tree.specs.declared.Side.{Side}
 use Rattle.tree.specs.declared.Node.{Node}
-use Rattle.tree.specs.Trees.{Tree, leaf, node, root, height, side, cell_of, node_of, Kept}
+use Rattle.tree.specs.Trees.{Tree, leaf, node, root, height, cell_of, node_of, Kept}
 use Rattle.tree.specs.Making.{Room}
 
 -- no answer is good and bad

@@ -1,5 +1,5 @@
 -- What was made, said otherwise, and one making after another.
-use Rattle.std.proofs.Common.{◌≡◌, ℕ, ◌+◌, ◌-◌, ◌≤◌, List, [], ◌∷◌, ◌++◌, length, Ok, Result, sym, refl, ap, ◌∙◌, subst, append-nil, arith, length-append}
+use Rattle.std.proofs.Common.{◌≡◌, ℕ, ◌+◌, ◌-◌, ◌≤◌, [], ◌∷◌, ◌++◌, length, Ok, Result, sym, refl, ap, ◌∙◌, subst, append-nil, arith, length-append}
 use Rattle.effects.specs.declared.Effect as effect
 use Rattle.times.specs.declared.Time as time
 use Rattle.reference.specs.declared.Operation.{Operation}
@@ -10,7 +10,7 @@ use Rattle.store.specs.Meaning.{Meaning, put_answer, with_cells, after_put}
 use Rattle.tree.specs.declared.Side.{Side}
 use Rattle.tree.specs.declared.Parts.{Parts}
 use Rattle.tree.specs.declared.Node.{Node}
-use Rattle.tree.specs.Trees.{Tree, leaf, node, height, operations, side, node_of, parts_of, Kept}
+use Rattle.tree.specs.Trees.{Tree, leaf, node, side, node_of, parts_of, Kept}
 use Rattle.store.specs.declared.Store as store
 use Rattle.tree.specs.Making.{Unchanged, Grew, Made, Reads, Opens, level}
 use Rattle.tree.proofs.Keeping.{same_answer, put_accepted, gains}

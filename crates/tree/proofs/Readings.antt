@@ -1,11 +1,10 @@
 -- The computed reading of a kept tree is its list of operations, whatever cells come after.
-use Rattle.std.proofs.Common.{◌≡◌, ℕ, zero, suc, ◌+◌, ◌≤◌, max, List, [], ◌∷◌, ◌++◌, Some, None, Option, sym, refl, ap, ◌∙◌, append-nil, arith}
+use Rattle.std.proofs.Common.{◌≡◌, ℕ, zero, suc, ◌≤◌, List, [], ◌∷◌, ◌++◌, Some, sym, refl, ap, ◌∙◌, arith}
 use Rattle.effects.specs.declared.Effect as effect
 use Rattle.times.specs.declared.Time as time
 use Rattle.reference.specs.declared.Operation.{Operation}
 use Rattle.cells.specs.declared.Cell.{Cell}
-use Rattle.store.specs.Meaning.{cell_at}
-use Rattle.tree.specs.Trees.{Tree, leaf, node, root, height, operations, side, cell_of, Kept}
+use Rattle.tree.specs.Trees.{Tree, leaf, node, root, height, operations, Kept}
 use Rattle.tree.specs.Reading.{own, around, read, read_from, height_in, height_at}
 use Rattle.tree.proofs.Keeping.{kept_more, height_below}
 

@@ -1,15 +1,15 @@
 -- A change makes a version that a trial may go on from.
-use Rattle.std.proofs.Common.{◌≡◌, ℕ, ◌+◌, ◌<◌, ◌≤◌, Bool, true, false, not, length, IfOk, Some, None, Ok, Option, Result, sym, refl, ap, ◌∙◌, subst, ⊎_elim, arith}
+use Rattle.std.proofs.Common.{◌≡◌, ℕ, ◌+◌, ◌<◌, ◌≤◌, true, false, not, length, IfOk, Some, None, Ok, Option, Result, sym, subst, ⊎_elim, arith}
 use Rattle.std.proofs.ByRecursion.{all_kept_by}
 use Rattle.std.proofs.lemmas.Bool.{cases_Bool}
 use Rattle.effects.specs.declared.Effect as effect
 use Rattle.times.specs.declared.Time as time
 use Rattle.reference.specs.declared.Operation.{Operation}
-use Rattle.reference.specs.Beliefs.{kinds, entered}
+use Rattle.reference.specs.Beliefs.{kinds}
 use Rattle.store.specs.declared.Store as store
 use Rattle.store.specs.declared.fault.Fault.{Fault}
-use Rattle.store.specs.Meaning.{Meaning, fault_of}
-use Rattle.order.specs.Order.{Below, has, is_at, struck}
+use Rattle.store.specs.Meaning.{fault_of}
+use Rattle.order.specs.Order.{Below, has, is_at}
 use Rattle.order.proofs.Stays.{below_entered, below_more, length_entered, length_kept}
 use Rattle.tree.specs.Reading.{read_from}
 use Rattle.tree.specs.Making.{Unchanged}

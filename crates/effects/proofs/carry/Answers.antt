@@ -1,4 +1,4 @@
-use Rattle.std.proofs.Common.{◌+◌, drop, fold, sym, ap, ◌∙◌}
+use Rattle.std.proofs.Common.{◌+◌, drop, fold, ap, ◌∙◌}
 use Rattle.effects.proofs.Folding.{folded_more, folded_all}
 use Rattle.effects.proofs.carry.Goals as goal
 

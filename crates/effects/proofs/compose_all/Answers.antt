@@ -1,4 +1,4 @@
-use Rattle.std.proofs.Common.{◌≡◌, ◌+◌, drop, fold, sym, ap, ◌∙◌}
+use Rattle.std.proofs.Common.{◌≡◌, ◌+◌, drop, fold, ap, ◌∙◌}
 use Rattle.effects.proofs.Folding.{folded_more, folded_all, folded_acts}
 use Rattle.effects.proofs.compose_all.Goals as goal
 

@@ -1,4 +1,3 @@
-use Rattle.std.proofs.Common.{[], ◌∷◌}
 use Rattle.reference.specs.Beliefs.{kinds}
 use Rattle.law.proofs.Keeping.{one_more}
 use Rattle.law.proofs.Sorting.{TimeLaws}

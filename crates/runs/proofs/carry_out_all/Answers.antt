@@ -1,5 +1,5 @@
 -- The calls carried out so far are a run; with the next call they are one still.
-use Rattle.std.proofs.Common.{◌≡◌, [], vec_items, sym, subst, arith, take_all}
+use Rattle.std.proofs.Common.{[], sym, subst, arith, take_all}
 use Rattle.reference.specs.Beliefs.{kinds}
 use Rattle.law.specs.Runs.{Run, rest}
 use Rattle.law.proofs.Keeping.{run_more}

@@ -1,4 +1,4 @@
-use Rattle.std.proofs.Common.{◌≡◌, Some, sym, ap, ◌∙◌, arith}
+use Rattle.std.proofs.Common.{◌≡◌, sym, ap, ◌∙◌, arith}
 use Rattle.words.specs.declared.StateWords.{StateWords}
 use Rattle.words.proofs.Giving.{some_same}
 use Rattle.digits.specs.Hex.{encoded}

@@ -1,5 +1,4 @@
-use Rattle.std.proofs.Common.{◌≡◌, Ok, arith, length-set}
-use Rattle.digits.specs.Hex.{checked}
+use Rattle.std.proofs.Common.{arith, length-set}
 use Rattle.digits.proofs.Decoding.{byte_more, passed, all_read}
 use Rattle.digits.proofs.Round.{written_again}
 use Rattle.digits.proofs.reading.decode.Goals as goal

@@ -1,10 +1,5 @@
 use Rattle.std.proofs.Common.{refl, arith}
-use Rattle.ledger.proofs.Lasting
-use Rattle.ledger.proofs.NewRows
-use Rattle.ledger.proofs.Found
-use Rattle.ledger.proofs.Showing
 use Rattle.ledger.proofs.Empty.{all_empty}
-use Rattle.ledger.proofs.Rows
 use Rattle.ledger.specs.Shown.{beliefs_of}
 use Rattle.ledger.proofs.Ledger.open.Goals as goal
 

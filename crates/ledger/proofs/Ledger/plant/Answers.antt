@@ -1,13 +1,11 @@
 -- What an insertion made is put, and the next row stands.
-use Rattle.std.proofs.Common.{◌≡◌, ◌+◌, ◌≤◌, length, sym, refl, ap, ◌∙◌, subst, arith}
+use Rattle.std.proofs.Common.{◌+◌, ◌≤◌, length, sym, refl, ap, ◌∙◌, subst, arith}
 use Rattle.reference.specs.Beliefs.{count}
-use Rattle.insertion.specs.Inserting.{Inserted}
 use Rattle.order.specs.Order.{Below}
 use Rattle.tree.specs.Reading.{read_from}
 use Rattle.tree.proofs.Keeping.{refused}
 use Rattle.ledger.proofs.Entries.{claim_none, newest_below, newest_few, entry_put}
 use Rattle.ledger.proofs.Putting.{stands_put}
-use Rattle.ledger.proofs.Ledger.plant.Given as given
 use Rattle.ledger.proofs.Ledger.plant.Goals as goal
 
 pub insert-requires : goal.insert-requires

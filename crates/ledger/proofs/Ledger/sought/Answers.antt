@@ -8,7 +8,7 @@ use Rattle.order.specs.Order.{Timed}
 use Rattle.order.proofs.Orders.{TimeLaws}
 use Rattle.law.specs.Runs.{Step}
 use Rattle.ledger.specs.Shown.{shown}
-use Rattle.ledger.proofs.Asked.{over, stands_over, shown_over}
+use Rattle.ledger.proofs.Asked.{stands_over, shown_over}
 use Rattle.ledger.proofs.Seeking.{missing_above, missing_unentered, missing_step, newest_timed, newest_has}
 use Rattle.ledger.proofs.Ledger.sought.Given as given
 use Rattle.ledger.proofs.Ledger.sought.Goals as goal

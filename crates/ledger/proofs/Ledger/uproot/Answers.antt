@@ -1,8 +1,7 @@
 -- What a removal made is put, and the next row stands.
-use Rattle.std.proofs.Common.{◌≡◌, ◌≤◌, true, length, Some, Ok, sym, refl, ap, ◌∙◌, arith}
+use Rattle.std.proofs.Common.{◌≤◌, length, Some, Ok, sym, refl, ap, ◌∙◌, arith}
 use Rattle.reference.specs.Beliefs.{count}
 use Rattle.order.proofs.Orders.{TimeLaws}
-use Rattle.removal.specs.Removing.{Removed}
 use Rattle.tree.specs.Reading.{read_from}
 use Rattle.tree.proofs.Keeping.{refused, same_answer}
 use Rattle.ledger.proofs.Entries.{claim_none, newest_few}

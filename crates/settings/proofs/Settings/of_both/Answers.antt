@@ -1,4 +1,3 @@
-use Rattle.std.proofs.Common.{sym}
 use Rattle.settings.specs.Overwriting.{joined}
 use Rattle.settings.specs.Sames.{same_settings}
 use Rattle.settings.proofs.Settings.of_both.Goals as goal

@@ -1,4 +1,3 @@
-use Rattle.std.proofs.Common.{◌+◌}
 use Rattle.counter.specs.contracts.kind.CounterEffect.TheImpl.{ghosts as counters}
 use Rattle.times.specs.contracts.clock.kind.ClockTime.TheImpl.{ghosts as clocks}
 use Rattle.tree.proofs.Makings.{unchanged_then}

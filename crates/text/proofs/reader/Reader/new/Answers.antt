@@ -1,6 +1,5 @@
-use Rattle.std.proofs.Common.{◌≡◌, drop, sym, refl, ap, subst}
+use Rattle.std.proofs.Common.{drop, sym, ap, subst}
 use Rattle.text.specs.Cut.{lines_from, Whole}
-use Rattle.text.specs.Seen.{unread}
 use Rattle.text.proofs.Rejoining.{lines_whole}
 use Rattle.text.proofs.reader.Reader.new.Goals as goal
 

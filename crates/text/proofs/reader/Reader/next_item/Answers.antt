@@ -1,4 +1,4 @@
-use Rattle.std.proofs.Common.{◌≡◌, ◌<◌, length, sym}
+use Rattle.std.proofs.Common.{length, sym}
 use Rattle.std.proofs.lemmas.Bool.{leb-true, leb-false}
 use Rattle.text.proofs.Cutting.{taken, none_left, at_end, one, same_text, a_remark, a_frame}
 use Rattle.text.proofs.reader.Reader.next_item.Goals as goal

@@ -1,6 +1,5 @@
-use Rattle.std.proofs.Common.{◌≡◌, ◌%◌, ◌^◌, refl, ◌∙◌, arith, w32, to_z, of_z}
+use Rattle.std.proofs.Common.{◌≡◌, refl, ◌∙◌, arith, w32, to_z, of_z}
 use borrow.Author.Differences.{ints}
-use Rattle.times.specs.Places.{signed}
 use Rattle.times.specs.Words.{place_is}
 use Rattle.times.proofs.place.Place.of_word.Goals as goal
 
