@@ -2,7 +2,7 @@
 // ledger: what a ledger would answer to a command it cannot know.
 #![tactic(auto)]
 
-mod words;
+mod wording;
 
 use commands::{Command, EffectKind, Opening, TimeKind, read};
 use counter::Counter;
@@ -14,7 +14,7 @@ use std::io;
 use std::io::Read;
 use text::{Flaw, Item, Reader, check_length};
 use times::{Clock, Place, Time};
-use words::{PayloadWords, TimeWords, flaw_words, opening_words};
+use wording::{PayloadWords, TimeWords, flaw_words, opening_words};
 
 // A line's characters as text: what is no printable character of ASCII is shown as '?'.
 fn shown(heap: Global, line: &[u8]) -> Result<String, AllocError> {

@@ -1,6 +1,6 @@
 -- How the beliefs of a ledger follow from its accepted changes, and what each change makes of them.
 use Rattle.std.proofs.Common.{◌≡◌, ℕ, ◌+◌, ◌-◌, ◌<◌, ◌≤◌, true, false, List, [], ◌∷◌, ◌++◌, length, get_or, sym, refl, ap, ◌∙◌, subst, ⊎_elim, arith}
-use Rattle.std.specs.List.{AllByRecursion as All}
+use Rattle.std.specs.List.{AllByRecursion}
 use Rattle.std.proofs.lemmas.List.{length_push, get_or_push, get_or_append_left, append_assoc, append-nil}
 use Rattle.std.proofs.lemmas.List.Elements.{AllZip-push}
 use Rattle.std.proofs.ByRecursion.{All-weaker, All-push, all_kept_by, All-get_or}
@@ -49,7 +49,7 @@ module _ {E T S : Type 0} (k : Kinds E T S) where
   pub record Sound (bs : Beliefs E T) : Type 0 where
     pub some : 0 < length bs
     pub room : length bs ≤ 1024
-    pub proper : All (Proper (length bs)) bs
+    pub proper : AllByRecursion (Proper (length bs)) bs
 
   pub sound_opening : Sound opening
   sound_opening = record { some = omega arith; room = omega arith; proper = ((tt, tt, omega arith), tt) }
@@ -85,7 +85,7 @@ module _ {E T S : Type 0} (k : Kinds E T S) where
       some = omega (arith, length_push bs b);
       room = omega (arith, length_push bs b);
       proper =
-          subst (λ n. All (Proper n) (bs ++ (b ∷ []))) (sym (length_push bs b))
+          subst (λ n. AllByRecursion (Proper n) (bs ++ (b ∷ []))) (sym (length_push bs b))
           (All-push (Proper (length bs + 1)) bs b (All-weaker (Proper (length bs)) (Proper (length bs + 1)) (proper_weaker _ _ (omega arith)) bs h.proper) (makes_proper bs c b h m));
     }
 
@@ -117,17 +117,17 @@ module _ {E T S : Type 0} (k : Kinds E T S) where
     undone t e n m x y (z ∷ earlier) later bs ds h f =
         undone t e n m x y earlier later (bs ++ (f.0 ∷ [])) ds (sound_more bs z.call f.0 h f.3 f.2) f.4
 
-  all_middle : {A : Type 0} (P : A → Type 0) (xs : List A) (y : A) (zs : List A) → All P (xs ++ (y ∷ zs)) → P y
+  all_middle : {A : Type 0} (P : A → Type 0) (xs : List A) (y : A) (zs : List A) → AllByRecursion P (xs ++ (y ∷ zs)) → P y
   all_middle P [] y zs h = h.0
   all_middle P (x ∷ xs) y zs h = all_middle P xs y zs h.1
 
   -- in a sorted belief, what stands before an operation is not after it
-  sorted_middle : (p : Belief E T) (o : Operation E T) (q : Belief E T) → Sorted k.upto (p ++ (o ∷ q)) → All (λ x. k.upto x.time o.time ≡ true) p
+  sorted_middle : (p : Belief E T) (o : Operation E T) (q : Belief E T) → Sorted k.upto (p ++ (o ∷ q)) → AllByRecursion (λ x. k.upto x.time o.time ≡ true) p
   sorted_middle [] o q h = tt
   sorted_middle (x ∷ p) o q h = (all_middle (λ y. k.upto x.time y.time ≡ true) p o q h.0, sorted_middle p o q h.1)
 
   -- such an operation, of a higher number, comes before none of another belief with the same times
-  before_none : (o : Operation E T) (p c : Belief E T) → SameOps p c → All (λ x. k.upto x.time o.time ≡ true) p → Below o.number c → All (λ x. before k o x ≡ false) c
+  before_none : (o : Operation E T) (p c : Belief E T) → SameOps p c → AllByRecursion (λ x. k.upto x.time o.time ≡ true) p → Below o.number c → AllByRecursion (λ x. before k o x ≡ false) c
   before_none o [] [] s h l = tt
   before_none o [] (y ∷ c) s h l = absurd s
   before_none o (x ∷ p) [] s h l = absurd s

@@ -2,7 +2,7 @@
 use Rattle.std.proofs.Common.{◌≡◌, ℕ, zero, suc, ◌+◌, ◌-◌, ◌<◌, ◌≤◌, List, [], ◌∷◌, ◌++◌, length, get_or, take, drop, Ok, sum_by, sym, ap, ◌∙◌, subst, ⊎_elim, arith}
 use Rattle.std.specs.Option as options
 use Rattle.std.specs.Result as results
-use Rattle.std.specs.List.{AllByRecursion as All}
+use Rattle.std.specs.List.{AllByRecursion}
 use Rattle.std.proofs.lemmas.List.{length-append, take_more}
 use Rattle.std.proofs.lemmas.List.Elements.{length_all_zip}
 use Rattle.std.proofs.ByRecursion.{All-get_or}
@@ -34,11 +34,11 @@ module _ {E T S : Type 0} (k : Kinds E T S) where
         count = asked_found bs b count l ∙ ap (λ s. Ok s) (length_all_zip _ B B' same) ∙ sym (asked_found bs' b' count l');
       }
 
-  few : {cs : List (Call E T)} {xs : List (Reply S T)} {u w : View E T} → Run k cs xs u w → All (λ h. h.cells ≤ claim_of h.call) (accepted cs xs)
+  few : {cs : List (Call E T)} {xs : List (Reply S T)} {u w : View E T} → Run k cs xs u w → AllByRecursion (λ h. h.cells ≤ claim_of h.call) (accepted cs xs)
   few rest = tt
   few (then {c = c} {a = a} {cs = cs} {xs = xs} {u = u} {v = v} s r) =
       let hs = accepted cs xs in
-      let Few : List (Change E T) → Type 0 = All (λ h. h.cells ≤ claim_of h.call) in
+      let Few : List (Change E T) → Type 0 = AllByRecursion (λ h. h.cells ≤ claim_of h.call) in
       ⊎_elim
       (λ q. subst Few (sym (q.quiet hs)) (few r))
       (λ q. subst (λ y. Few (noted c y hs)) (sym q.grows.answer) (q.grows.few, few r))

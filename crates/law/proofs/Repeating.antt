@@ -1,6 +1,6 @@
 -- The second ledger exists: entries for which a store has room are all accepted, and every list of calls has a run.
 use Rattle.std.proofs.Common.{◌≡◌, ℕ, ◌+◌, ◌<◌, ◌≤◌, List, [], ◌∷◌, ◌++◌, length, None, Ok, sum_by, sym, refl, ap, ◌∙◌, subst, arith}
-use Rattle.std.specs.List.{AllByRecursion as All}
+use Rattle.std.specs.List.{AllByRecursion}
 use Rattle.std.proofs.lemmas.List.{length_push, length-map}
 use Rattle.std.proofs.lemmas.List.Sums.{sum_by-cons}
 use Rattle.std.proofs.ByRecursion.{sum_by_le}
@@ -23,11 +23,11 @@ Entry (State b t) = ⊥
 Entry (Latest b t) = ⊥
 Entry (Count b) = ⊥
 
-all_entries : {E T : Type 0} (b : Belief E T) → All Entry (entries b)
+all_entries : {E T : Type 0} (b : Belief E T) → AllByRecursion Entry (entries b)
 all_entries [] = tt
 all_entries (o ∷ os) = (tt, all_entries os)
 
-claims_of_entries : {E T : Type 0} (b : Belief E T) → All (λ c. claim_of c ≤ 42) (entries b)
+claims_of_entries : {E T : Type 0} (b : Belief E T) → AllByRecursion (λ c. claim_of c ≤ 42) (entries b)
 claims_of_entries [] = tt
 claims_of_entries (o ∷ os) = (omega arith, claims_of_entries os)
 
@@ -69,7 +69,7 @@ module _ {E T S : Type 0} (k : Kinds E T S) where
         space = omega (arith, room.space);
       })
 
-  all_accepted : {cs : List (Call E T)} {xs : List (Reply S T)} {u w : View E T} → Run k cs xs u w → All Entry cs → Room cs u → calls_of (accepted cs xs) ≡ cs
+  all_accepted : {cs : List (Call E T)} {xs : List (Reply S T)} {u w : View E T} → Run k cs xs u w → AllByRecursion Entry cs → Room cs u → calls_of (accepted cs xs) ≡ cs
   all_accepted rest i room = refl
   all_accepted (then {c = c} {a = a} {cs = cs} {xs = xs} {u = u} {v = v} s r) i room =
       let g = entry_grows c cs a u v i.0 room s in

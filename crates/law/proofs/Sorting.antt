@@ -1,7 +1,7 @@
 -- Beliefs stay in order, what an entry and a withdrawal do to one, and that equal times and effects give equal answers.
 use Rattle.std.proofs.Common.{◌≡◌, ℕ, ◌+◌, ◌<◌, ◌≤◌, Bool, true, false, cond, not, ◌||◌, eqb, List, [], ◌∷◌, ◌++◌, length, Some, None, fold, filter, Option, refl, ap, ◌∙◌, subst, ⊎_elim, arith}
 use Rattle.std.specs.Option.{option_map}
-use Rattle.std.specs.List.{AllZip, AllByRecursion as All}
+use Rattle.std.specs.List.{AllZip, AllByRecursion}
 use Rattle.std.proofs.ByRecursion.{All-weaker, all_kept_by}
 use Rattle.std.proofs.lemmas.Bool.{cond_both, cond-true, cond-false, not-true, not-false, not_from_true, not_from_false, ne_eqb, eq-eqb, le-ltb, and_parts, and_right, or_parts, or_cases, or_from, both_ways}
 use Rattle.reference.specs.declared.Operation.{Operation}
@@ -14,12 +14,12 @@ pub record TimeLaws {T : Type 0} (upto : T → T → Bool) : Type 0 where
 
 -- all numbers are below n
 abbrev pub Below : {E T : Type 0} → ℕ → Belief E T → Type 0
-Below n b = All (λ o. o.number < n) b
+Below n b = AllByRecursion (λ o. o.number < n) b
 
 -- in the order of time
 abbrev pub Sorted : {E T : Type 0} → (T → T → Bool) → Belief E T → Type 0
 Sorted upto [] = Unit {0}
-Sorted upto (o ∷ os) = All (λ p. upto o.time p.time ≡ true) os × Sorted upto os
+Sorted upto (o ∷ os) = AllByRecursion (λ p. upto o.time p.time ≡ true) os × Sorted upto os
 
 -- the same times and effects, whatever the numbers
 abbrev pub SameOps : {E T : Type 0} → Belief E T → Belief E T → Type 0
@@ -57,9 +57,9 @@ module _ {E T S : Type 0} (k : Kinds E T S) where
       (λ _. without_first o (p ∷ ps) h)
       (λ _. without_other o.number p (entered k o ps) h.0 ∙ ap (◌∷◌ p) (without_entered o ps h.1))
 
-  pub all_entered : (P : Operation E T → Type 0) (o : Operation E T) (b : Belief E T) → P o → All P b → All P (entered k o b)
+  pub all_entered : (P : Operation E T → Type 0) (o : Operation E T) (b : Belief E T) → P o → AllByRecursion P b → AllByRecursion P (entered k o b)
   all_entered P o [] po h = (po, tt)
-  all_entered P o (p ∷ ps) po h = cond_both (before k o p) _ _ (All P) (λ _. (po, h)) (λ _. (h.0, all_entered P o ps po h.1))
+  all_entered P o (p ∷ ps) po h = cond_both (before k o p) _ _ (AllByRecursion P) (λ _. (po, h)) (λ _. (h.0, all_entered P o ps po h.1))
 
   pub length_entered : (o : Operation E T) (b : Belief E T) → length (entered k o b) ≡ length b + 1
   length_entered o [] = refl
@@ -67,7 +67,7 @@ module _ {E T S : Type 0} (k : Kinds E T S) where
       cond_both (before k o p) _ _ (λ z. length z ≡ length (p ∷ ps) + 1) (λ _. omega arith) (λ _. omega (arith, length_entered o ps))
 
   -- an operation that comes before none of a belief goes to its end
-  pub entered_last : (o : Operation E T) (b : Belief E T) → All (λ p. before k o p ≡ false) b → entered k o b ≡ b ++ (o ∷ [])
+  pub entered_last : (o : Operation E T) (b : Belief E T) → AllByRecursion (λ p. before k o p ≡ false) b → entered k o b ≡ b ++ (o ∷ [])
   entered_last o [] h = refl
   entered_last o (p ∷ ps) h = cond-false (before k o p) _ _ h.0 ∙ ap (◌∷◌ p) (entered_last o ps h.1)
 

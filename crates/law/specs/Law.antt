@@ -2,7 +2,7 @@
 use Rattle.std.specs.Prelude.{◌≡◌, ℕ, ◌+◌, ◌-◌, ◌<◌, ◌≤◌, List, [], ◌∷◌, ◌++◌, map, length, sum_by, Option, Result, slice_index_or}
 use Rattle.std.specs.Option as options
 use Rattle.std.specs.Result as results
-use Rattle.std.specs.List.{AllByRecursion as All}
+use Rattle.std.specs.List.{AllByRecursion}
 use Rattle.store.specs.Meaning.{Meaning}
 use Rattle.reference.specs.Beliefs.{Kinds, Belief}
 use Rattle.calls.specs.declared.call.Call.{Call}
@@ -43,7 +43,7 @@ pub record Promise {E T S : Type 0} (k : Kinds E T S) (m : Meaning) (cs : List (
       → accepted cs xs ≡ earlier ++ (record { call = Enter t e; belief = n; cells = x } ∷ (record { call = Withdraw n; belief = n'; cells = x' } ∷ later))
       → Alike k v.beliefs n' v.beliefs (n - 1) × ((t' : T) → latest_of k v.beliefs n' t' ≡ latest_of k v.beliefs (n - 1) t')
   -- No accepted change reports more cells than it claimed.
-  pub few : All (λ h. h.cells ≤ claim_of h.call) (accepted cs xs)
+  pub few : AllByRecursion (λ h. h.cells ≤ claim_of h.call) (accepted cs xs)
   -- The reports add up to what the store gained since the opening.
   pub adds_up : length m.cells + sum_by (λ h. h.cells) (accepted cs xs) ≡ length v.store.cells
 

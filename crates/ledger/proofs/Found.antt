@@ -1,6 +1,6 @@
 -- Which operations a belief has, by number alone and by the row of the number.
 use Rattle.std.proofs.Common.{◌≡◌, ℕ, ◌+◌, ◌<◌, ◌≤◌, true, false, not, ◌||◌, eqb, List, [], ◌∷◌, length, get_or, Some, None, sym, refl, ap, ◌∙◌, subst, ⊎_elim, arith}
-use Rattle.std.specs.List.{AllByRecursion as All}
+use Rattle.std.specs.List.{AllByRecursion}
 use Rattle.std.proofs.ByRecursion.{All-weaker}
 use Rattle.std.proofs.lemmas.Bool.{cases_Bool, cond-true, cond-false, eqb-true, ne_eqb, and_left, and_from, or_cases, or_from, not_from_true, not_from_false, both_ways, le-ltb, and_right}
 use Rattle.reference.specs.declared.Operation.{Operation}
@@ -17,11 +17,11 @@ timed_from rows n at d [] is h = tt
 timed_from rows n at d (o ∷ os) is h = (λ same. let p = h.0 d in let q : (get_or rows o.number d).entered ≡ Some at = ap (λ i. (get_or rows i d).entered) same ∙ is in cc, timed_from rows n at d os is h.1)
 
 -- a number that no operation has
-pub has_none : {E T : Type 0} (n : ℕ) (belief : Belief E T) → All (λ o. o.number ≡ n → ⊥) belief → has n belief ≡ false
+pub has_none : {E T : Type 0} (n : ℕ) (belief : Belief E T) → AllByRecursion (λ o. o.number ≡ n → ⊥) belief → has n belief ≡ false
 has_none n [] h = refl
 has_none n (o ∷ os) h = or_from (eqb o.number n) (has n os) (ne_eqb o.number n h.0) (has_none n os h.1)
 
-pub without_none : {E T : Type 0} (n : ℕ) (belief : Belief E T) → All (λ o. o.number ≡ n → ⊥) belief → without n belief ≡ belief
+pub without_none : {E T : Type 0} (n : ℕ) (belief : Belief E T) → AllByRecursion (λ o. o.number ≡ n → ⊥) belief → without n belief ≡ belief
 without_none n [] h = refl
 without_none n (o ∷ os) h = cond-true (not (eqb o.number n)) _ _ (not_from_false _ (ne_eqb o.number n h.0)) ∙ ap (◌∷◌ o) (without_none n os h.1)
 
@@ -59,7 +59,7 @@ module _ {E T S : Type 0} (k : Kinds E T S) (laws : TimeLaws k.upto) where
       let upto : k.upto p.time o.time ≡ true = subst (λ a. k.upto a o.time ≡ true) (sym equal) (upto_self o.time) in
       both_ways (before k o p) (or_from (not (k.upto p.time o.time)) _ (not_from_true _ upto) (and_right (k.upto o.time p.time) _ (le-ltb o.number p.number (omega arith)))) first
 
-  all_alone : (n : ℕ) (at : T) (o : Operation E T) (os : Belief E T) → All (λ p. before k o p ≡ true) os → o.number ≡ n → o.time ≡ at → Timed n at os → All (λ p. p.number ≡ n → ⊥) os
+  all_alone : (n : ℕ) (at : T) (o : Operation E T) (os : Belief E T) → AllByRecursion (λ p. before k o p ≡ true) os → o.number ≡ n → o.time ≡ at → Timed n at os → AllByRecursion (λ p. p.number ≡ n → ⊥) os
   all_alone n at o [] first number time timed = tt
   all_alone n at o (p ∷ os) first number time timed = (alone n at o p first.0 number time timed.0, all_alone n at o os first.1 number time timed.1)
 

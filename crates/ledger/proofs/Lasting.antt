@@ -1,6 +1,6 @@
 -- What stands keeps standing with more cells and one row more.
 use Rattle.std.proofs.Common.{◌≡◌, ℕ, ◌+◌, ◌<◌, List, [], ◌∷◌, ◌++◌, get_or, set, Some, sym, ap, ◌∙◌, subst, arith}
-use Rattle.std.specs.List.{AllByRecursion as All}
+use Rattle.std.specs.List.{AllByRecursion}
 use Rattle.std.proofs.lemmas.List.{get_or-set_other}
 use Rattle.effects.specs.declared.Effect as effect
 use Rattle.times.specs.declared.Time as time
@@ -17,7 +17,7 @@ use Rattle.ledger.specs.Shown.{RowStands}
 
 -- each operation's time stands in the row of its number
 abbrev pub Entered : {E T : Type 0} → List (Row T) → Belief E T → Type 0
-Entered {E} {T} rows belief = All (λ o. (d : Row T) → (get_or rows o.number d).entered ≡ Some o.time) belief
+Entered {E} {T} rows belief = AllByRecursion (λ o. (d : Row T) → (get_or rows o.number d).entered ≡ Some o.time) belief
 
 pub entered_set : {E T : Type 0} (rows : List (Row T)) (i : ℕ) (row : Row T) (belief : Belief E T) → Below i belief → Entered rows belief → Entered (set rows i row) belief
 entered_set rows i row [] below h = tt

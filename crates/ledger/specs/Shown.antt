@@ -1,6 +1,6 @@
 -- What a ledger shows, and what it is known by since it was opened.
 use Rattle.std.specs.Prelude.{◌≡◌, ℕ, ◌+◌, ◌<◌, ◌≤◌, List, map, length, get_or, take, Some, slice_index_or}
-use Rattle.std.specs.List.{AllByRecursion as All}
+use Rattle.std.specs.List.{AllByRecursion}
 use Rattle.effects.specs.declared.Effect as effect
 use Rattle.times.specs.declared.Time as time
 use Rattle.store.specs.declared.Store as store
@@ -30,7 +30,7 @@ module _ {E St T : Type 0} (e : effect.Ghosts E St) (t : time.Ghosts T) where
     pub below : Below (b + 1) (read_from e t cells row.root)
     pub counted : row.count ≡ count (read_from e t cells row.root)
     pub few : row.count ≤ b
-    pub timed : All (λ o. (d : Row T) → (get_or rows o.number d).entered ≡ Some o.time) (read_from e t cells row.root)
+    pub timed : AllByRecursion (λ o. (d : Row T) → (get_or rows o.number d).entered ≡ Some o.time) (read_from e t cells row.root)
 
   module _ {S : Type 0} (s : store.Ghosts S) where
     -- What a ledger shows.

@@ -3,10 +3,10 @@
 
 use std::marker::PhantomData;
 
+pub mod asking;
 pub mod changes;
 pub mod entering;
 pub mod opening;
-pub mod questions;
 pub mod withdrawing;
 
 // A belief: the number of its root's cell, 0 where it is empty, the time of the operation that its change entered, if it

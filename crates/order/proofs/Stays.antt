@@ -1,6 +1,6 @@
 -- What a change of a belief keeps: its order, the numbers below a number, and the times by number.
 use Rattle.std.proofs.Common.{◌≡◌, ℕ, ◌+◌, ◌<◌, ◌≤◌, Bool, true, cond, not, ◌&&◌, eqb, List, [], ◌∷◌, length, filter, sym, refl, ap, ◌∙◌, ⊎_elim, arith}
-use Rattle.std.specs.List.{AllByRecursion as All}
+use Rattle.std.specs.List.{AllByRecursion}
 use Rattle.std.proofs.ByRecursion.{All-weaker, all_kept_by}
 use Rattle.std.proofs.lemmas.Bool.{cond_both, eqb-true, and_left, and_from, cases_Bool, or_cases}
 use Rattle.reference.specs.declared.Operation.{Operation}
@@ -9,9 +9,9 @@ use Rattle.order.specs.Order.{Below, Timed, Sorted, is_at, struck}
 use Rattle.order.proofs.Orders.{TimeLaws, before_number, before_trans, not_before}
 
 module _ {E T S : Type 0} (k : Kinds E T S) where
-  pub all_entered : (P : Operation E T → Type 0) (new : Operation E T) (belief : Belief E T) → P new → All P belief → All P (entered k new belief)
+  pub all_entered : (P : Operation E T → Type 0) (new : Operation E T) (belief : Belief E T) → P new → AllByRecursion P belief → AllByRecursion P (entered k new belief)
   all_entered P new [] p h = (p, tt)
-  all_entered P new (o ∷ os) p h = cond_both (before k new o) _ _ (All P) (λ _. (p, h)) (λ _. (h.0, all_entered P new os p h.1))
+  all_entered P new (o ∷ os) p h = cond_both (before k new o) _ _ (AllByRecursion P) (λ _. (p, h)) (λ _. (h.0, all_entered P new os p h.1))
 
   pub length_entered : (new : Operation E T) (belief : Belief E T) → length (entered k new belief) ≡ length belief + 1
   length_entered new [] = refl

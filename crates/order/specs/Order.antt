@@ -1,22 +1,22 @@
 -- Beliefs in order, and where an operation stands in one.
 use Rattle.std.specs.Prelude.{◌≡◌, ℕ, ◌<◌, Bool, true, false, not, ◌&&◌, ◌||◌, [], ◌∷◌, filter, ◌==◌}
-use Rattle.std.specs.List.{AllByRecursion as All}
+use Rattle.std.specs.List.{AllByRecursion}
 use Rattle.reference.specs.declared.Operation.{Operation}
 use Rattle.reference.specs.Beliefs.{Kinds, Belief, before}
 
 -- every number is below n
 abbrev pub Below : {E T : Type 0} → ℕ → Belief E T → Type 0
-Below n belief = All (λ o. o.number < n) belief
+Below n belief = AllByRecursion (λ o. o.number < n) belief
 
 -- what has the number n has the time t
 abbrev pub Timed : {E T : Type 0} → ℕ → T → Belief E T → Type 0
-Timed n t belief = All (λ o. o.number ≡ n → o.time ≡ t) belief
+Timed n t belief = AllByRecursion (λ o. o.number ≡ n → o.time ≡ t) belief
 
 module _ {E T S : Type 0} (k : Kinds E T S) where
   -- each operation is before all that follow it
   abbrev pub Sorted : Belief E T → Type 0
   Sorted [] = Unit {0}
-  Sorted (o ∷ os) = All (λ p. before k o p ≡ true) os × Sorted os
+  Sorted (o ∷ os) = AllByRecursion (λ p. before k o p ≡ true) os × Sorted os
 
   -- whether an operation has this number and this time
   abbrev pub is_at : ℕ → T → Operation E T → Bool

@@ -1,7 +1,7 @@
 -- The lines up to an opening: what those that are left give, all give behind what was written so far.
-use Rattle.std.proofs.Common.{◌≡◌, ℕ, true, false, List, [], ◌∷◌, ◌++◌, is_some, Some, None, Option, sym, refl, ap, ◌∙◌, subst, append_assoc, append-nil, arith}
+use Rattle.std.proofs.Common.{◌≡◌, ℕ, true, false, List, [], ◌++◌, is_some, Some, None, Option, sym, refl, ap, ◌∙◌, append_assoc, append-nil, arith}
 use Rattle.text.specs.declared.reader.Item.{Item}
-use Rattle.text.specs.Cut.{Line, part}
+use Rattle.text.specs.Cut.{Line}
 use Rattle.text.specs.Seen.{held, Takes}
 use Rattle.commands.specs.declared.command.Opening.{Opening}
 use Rattle.session.specs.Saying.{written}

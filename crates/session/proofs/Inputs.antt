@@ -1,5 +1,5 @@
 -- From the lines up to an opening and those after it to the whole of an input.
-use Rattle.std.proofs.Common.{◌≡◌, ℕ, ◌+◌, ◌*◌, ◌≤◌, ltb, List, [], ◌∷◌, ◌++◌, length, Some, None, Ok, Err, Option, Result, sym, refl, ap, ◌∙◌, subst, ⊎_elim, arith, length-append}
+use Rattle.std.proofs.Common.{◌≡◌, ℕ, ◌+◌, ◌≤◌, ltb, List, [], ◌∷◌, length, Some, None, Ok, Err, Option, sym, ap, ◌∙◌, subst, ⊎_elim, arith, length-append}
 use Rattle.store.specs.declared.Store as store
 use Rattle.layers.specs.Quotas.{limited}
 use Rattle.std.proofs.lemmas.Bool.{cond-true, cases_lt, lt-ltb}
@@ -7,7 +7,7 @@ use Rattle.text.specs.declared.flaw.Flaw.TheVariants.{LongInput}
 use Rattle.text.specs.Cut as text
 use Rattle.text.specs.Cut.{Line, joined_lines, length_checked}
 use Rattle.commands.specs.declared.command.Opening.{Opening}
-use Rattle.session.specs.Whole.{until_opening, UpTo}
+use Rattle.session.specs.Whole.{UpTo}
 use Rattle.session.specs.Records.{Adds, Record, KeptBy, AnsweredFrom}
 
 -- the lines of an input, each with a newline, are at most one byte longer than it

@@ -1,5 +1,5 @@
 -- What an open record was served is kept, promise and all.
-use Rattle.std.proofs.Common.{◌≡◌, ℕ, List, ◌++◌, sym, refl, ap, ◌∙◌, subst}
+use Rattle.std.proofs.Common.{◌≡◌, ℕ, List, refl, subst}
 use Rattle.effects.specs.declared.Effect as effect
 use Rattle.times.specs.declared.Time as time
 use Rattle.payloads.specs.declared.payload.Payload as payload

@@ -1,5 +1,5 @@
 -- How long the lines of answers are, and how long the lines are that they answer.
-use Rattle.std.proofs.Common.{◌≡◌, ℕ, ◌+◌, ◌*◌, ◌≤◌, List, [], ◌∷◌, ◌++◌, length, Some, None, Ok, Err, sym, refl, ap, ◌∙◌, arith, lit≤, length-append}
+use Rattle.std.proofs.Common.{◌≡◌, ℕ, ◌+◌, ◌*◌, ◌≤◌, List, [], ◌∷◌, ◌++◌, length, Some, None, Ok, Err, ap, ◌∙◌, arith, lit≤, length-append}
 use Rattle.text.specs.declared.flaw.Flaw.{Flaw}
 use Rattle.digits.specs.declared.line.Line.{Line}
 use Rattle.digits.specs.Hex.{encoded}

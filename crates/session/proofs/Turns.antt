@@ -1,5 +1,5 @@
 -- One line more, and then the others: what the lines that are left give, the lines from the first on give behind what was written so far.
-use Rattle.std.proofs.Common.{◌≡◌, ℕ, ◌+◌, ◌*◌, ◌≤◌, true, false, cond, List, [], ◌∷◌, ◌++◌, length, Some, None, Option, sym, refl, ap, ◌∙◌, subst, append_assoc, append-nil, arith, length-append}
+use Rattle.std.proofs.Common.{◌≡◌, ℕ, ◌+◌, true, false, cond, List, [], ◌∷◌, ◌++◌, length, Some, None, Option, sym, refl, ap, ◌∙◌, subst, append_assoc, append-nil, arith, length-append}
 use Rattle.effects.specs.declared.Effect as effect
 use Rattle.times.specs.declared.Time as time
 use Rattle.payloads.specs.declared.payload.Payload as payload
@@ -13,11 +13,11 @@ use Rattle.text.specs.Seen.{held, Takes}
 use Rattle.digits.specs.declared.line.Line.{Line}
 use Rattle.commands.specs.Frames.{forms}
 use Rattle.answers.specs.Lines as answers
-use Rattle.law.specs.Runs.{Reply, View, Step, Run, rest, then}
+use Rattle.law.specs.Runs.{Reply, View, Run, rest, then}
 use Rattle.ledger.specs.declared.Ledger.{Ledger}
 use Rattle.ledger.specs.Shown.{shown}
-use Rattle.session.specs.Saying.{line_of, bytes_of, written, Said, remarks, flawed, asks, with_call, with_answer, said, calls_in, output}
-use Rattle.session.specs.Serving.{Carried, Hears, Served}
+use Rattle.session.specs.Saying.{bytes_of, written, Said, remarks, flawed, asks, with_call, with_answer, said, calls_in, output}
+use Rattle.session.specs.Serving.{Hears, Served}
 
 -- the line of an item that was taken from lines
 pub took : (ls : List text.Line) (i : Item) (left : List text.Line) → Takes ls (Some i) left → (l : text.Line) × (ls ≡ l ∷ left) × (held i ≡ part l)

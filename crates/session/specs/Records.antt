@@ -1,5 +1,5 @@
 -- What a record is after the whole of an input, and what was written for it.
-use Rattle.std.specs.Prelude.{◌≡◌, ℕ, List, [], ◌∷◌, ◌++◌, Some, None, Ok, Err, Option, Result}
+use Rattle.std.specs.Prelude.{◌≡◌, ℕ, List, ◌++◌, Some, None, Ok, Err, Option, Result}
 use Rattle.effects.specs.declared.Effect as effect
 use Rattle.times.specs.declared.Time as time
 use Rattle.payloads.specs.declared.payload.Payload as payload
@@ -25,7 +25,7 @@ use Rattle.commands.specs.declared.command.TimeKind.TheVariants.{Clock, Place}
 use Rattle.commands.specs.declared.command.Opening.{Opening}
 use Rattle.commands.specs.Frames.{forms}
 use Rattle.answers.specs.Lines as answers
-use Rattle.law.specs.Runs.{Reply, View}
+use Rattle.law.specs.Runs.{Reply}
 use Rattle.law.specs.Law.{Promise}
 use Rattle.ledger.specs.declared.Ledger.{Ledger}
 use Rattle.ledger.specs.Shown.{shown, Stands}

@@ -14,7 +14,7 @@ use Rattle.law.specs.Runs.{Reply, View, Step, Run}
 use Rattle.law.specs.Law.{Continues}
 use Rattle.ledger.specs.declared.Ledger.{Ledger}
 use Rattle.ledger.specs.Shown.{shown}
-use Rattle.session.specs.Saying.{line_of, written, Said, remarks, flawed, asks, said, calls_in, output}
+use Rattle.session.specs.Saying.{line_of, written, Said, remarks, flawed, asks, calls_in, output}
 
 module _ {E St T S : Type 0} (e : effect.Ghosts E St) (t : time.Ghosts T) (s : store.Ghosts S) where
   -- A call under a code was carried out: one step of the ledger, answered by its reply as a line. The promise goes on with it, and

@@ -1,34 +1,16 @@
 -- What is written for the whole of an input: for the lines up to an accepted opening, and then by an open record.
 use Rattle.std.specs.Prelude.{◌≡◌, ℕ, false, List, [], ◌∷◌, ◌++◌, Some, None, Ok, Err, Option, Result}
-use Rattle.effects.specs.declared.Effect as effect
-use Rattle.times.specs.declared.Time as time
-use Rattle.payloads.specs.declared.payload.Payload as payload
-use Rattle.counter.specs.contracts.kind.CounterEffect.TheImpl.{ghosts as counters}
-use Rattle.settings.specs.contracts.kind.SettingsEffect.TheImpl.{ghosts as settings}
-use Rattle.status.specs.contracts.kind.TransitionsEffect.TheImpl.{ghosts as statuses}
 use Rattle.payloads.specs.contracts.counters.CounterPayload.TheImpl.{ghosts as counter-payloads}
-use Rattle.payloads.specs.contracts.setups.SettingsPayload.TheImpl.{ghosts as settings-payloads}
-use Rattle.payloads.specs.contracts.events.TransitionsPayload.TheImpl.{ghosts as event-payloads}
 use Rattle.times.specs.contracts.clock.kind.ClockTime.TheImpl.{ghosts as clocks}
-use Rattle.times.specs.contracts.place.kind.PlaceTime.TheImpl.{ghosts as places}
-use Rattle.reference.specs.Beliefs.{kinds}
-use Rattle.store.specs.Meaning.{Meaning}
-use Rattle.layers.specs.Quotas.{limited}
 use Rattle.text.specs.declared.flaw.Flaw.{Flaw}
 use Rattle.text.specs.declared.flaw.Flaw.TheVariants.{BadCode}
-use Rattle.text.specs.Cut.{Line, Part, remark, frame, part, lines_from, length_checked}
-use Rattle.commands.specs.declared.command.EffectKind.{EffectKind}
-use Rattle.commands.specs.declared.command.EffectKind.TheVariants.{Counter, Settings, Status}
-use Rattle.commands.specs.declared.command.TimeKind.{TimeKind}
-use Rattle.commands.specs.declared.command.TimeKind.TheVariants.{Clock, Place}
+use Rattle.text.specs.Cut.{Line, Part, remark, frame, part}
 use Rattle.commands.specs.declared.command.Opening.{Opening}
 use Rattle.commands.specs.declared.command.Command.{Command}
 use Rattle.commands.specs.declared.command.Command.TheVariants.{Open, Enter, Withdraw, State, Latest, Count}
 use Rattle.commands.specs.Frames.{forms, command}
 use Rattle.answers.specs.Lines as answers
-use Rattle.law.specs.Runs.{Reply, View}
-use Rattle.law.specs.Law.{Promise}
-use Rattle.session.specs.Saying.{line_of, calls_in, output}
+use Rattle.session.specs.Saying.{line_of}
 
 -- an opening among commands
 abbrev pub opening_by : {P T : Type 0} → Result (Command P T) Flaw → Result Opening Flaw

@@ -3,7 +3,7 @@ use Rattle.std.specs.Prelude.{◌≡◌, ℕ, zero, suc, ◌+◌, ◌-◌, ◌*�
 use Rattle.std.proofs.Common.{sym, ap, ap₂, ◌∙◌, append_assoc, append-nil, arith, pow-suc, eq-eqb, lt→ltb, ltb→lt, eqb→eq, length-drop}
 use Rattle.std.proofs.Math.Nat.{one-le-pow}
 use Rattle.std.proofs.lemmas.List.{take_all, take_more_set, length-map}
-use Rattle.std.specs.List.{AllByRecursion as All}
+use Rattle.std.specs.List.{AllByRecursion}
 use Rattle.words.specs.declared.EffectWords.{EffectWords}
 use Rattle.words.proofs.Giving.{given_passed, given_some, some_same, none_where, same_effect_words}
 use Rattle.status.specs.Codes.{status_of, code_of}
@@ -13,7 +13,7 @@ use Rattle.status.specs.declared.Transitions.{Transitions}
 use Rattle.status.specs.Sames.{same_transitions}
 use Rattle.status.specs.Statuses.{code_small, code_of_status, statuses_of_codes}
 
-digits_octal : (xs : List ℕ) → All (λ x. x < 8) xs → digits (length xs) (octal xs) ≡ xs
+digits_octal : (xs : List ℕ) → AllByRecursion (λ x. x < 8) xs → digits (length xs) (octal xs) ≡ xs
 digits_octal [] small = refl
 digits_octal (x ∷ xs) small =
     let low : (x + 8 * octal xs) % 8 ≡ x = omega (arith, small.0) in
@@ -24,7 +24,7 @@ octal_digits : (k n : ℕ) → n < 8 ^ k → octal (digits k n) ≡ n
 octal_digits zero n small = omega arith
 octal_digits (suc k) n small = omega (arith, octal_digits k (n / 8) (omega (arith, pow-suc 8 k)))
 
-codes_small : (ss : List Status) → All (λ x. x < 8) (map code_of ss)
+codes_small : (ss : List Status) → AllByRecursion (λ x. x < 8) (map code_of ss)
 codes_small [] = tt
 codes_small (s ∷ ss) = (code_small s, codes_small ss)
 

@@ -1,4 +1,4 @@
-use Rattle.std.proofs.Common.{◌≡◌, sym, ap, ◌∙◌, subst, arith}
+use Rattle.std.proofs.Common.{sym, ap, ◌∙◌, arith}
 use Rattle.text.specs.Seen.{held}
 use Rattle.session.specs.Whole.{heard_closed}
 use Rattle.session.proofs.opening.answer_closed.Goals as goal

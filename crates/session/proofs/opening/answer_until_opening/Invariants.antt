@@ -1,5 +1,5 @@
 -- The lines so far were answered and none opened the record, and there is room for the answers to those that are left.
-use Rattle.std.proofs.Common.{◌≡◌, ◌+◌, ◌*◌, ◌≤◌, ◌++◌, length, vec_items, vec_len, vec_capacity}
+use Rattle.std.proofs.Common.{◌+◌, ◌*◌, ◌≤◌, length, vec_items, vec_len, vec_capacity}
 use Rattle.text.specs.Cut.{joined_lines}
 use Rattle.text.specs.Seen.{unread}
 use Rattle.session.proofs.Closed.{Sofar}
