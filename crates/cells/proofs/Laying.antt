@@ -66,15 +66,15 @@ layout_cell_of bytes long small =
     let under : AllBelowBase 256 bytes = All-from_get_or (λ b. b < 256) bytes 0 (λ i _. small i) in
     let within : (n : ℕ) → n ≤ cell_width → n ≤ length bytes = λ n low. omega arith in
     let end : [] ≡ drop 56 bytes = sym (drop_all 56 bytes (omega arith)) in
-    let from-48 = sym (append-nil _) ∙ part_back bytes 48 8 [] (within 56 (lit≤ tt)) under end in
-    let from-40 = part_back bytes 40 8 _ (within 48 (lit≤ tt)) under from-48 in
-    let from-32 = part_back bytes 32 8 _ (within 40 (lit≤ tt)) under from-40 in
-    let from-24 = part_back bytes 24 8 _ (within 32 (lit≤ tt)) under from-32 in
-    let from-20 = part_back bytes 20 4 _ (within 24 (lit≤ tt)) under from-24 in
-    let from-16 = part_back bytes 16 4 _ (within 20 (lit≤ tt)) under from-20 in
-    let from-12 = part_back bytes 12 4 _ (within 16 (lit≤ tt)) under from-16 in
-    let from-8 = part_back bytes 8 4 _ (within 12 (lit≤ tt)) under from-12 in
-    part_back bytes 0 8 _ (within 8 (lit≤ tt)) under from-8
+    let from_48 = sym (append-nil _) ∙ part_back bytes 48 8 [] (within 56 (lit≤ tt)) under end in
+    let from_40 = part_back bytes 40 8 _ (within 48 (lit≤ tt)) under from_48 in
+    let from_32 = part_back bytes 32 8 _ (within 40 (lit≤ tt)) under from_40 in
+    let from_24 = part_back bytes 24 8 _ (within 32 (lit≤ tt)) under from_32 in
+    let from_20 = part_back bytes 20 4 _ (within 24 (lit≤ tt)) under from_24 in
+    let from_16 = part_back bytes 16 4 _ (within 20 (lit≤ tt)) under from_20 in
+    let from_12 = part_back bytes 12 4 _ (within 16 (lit≤ tt)) under from_16 in
+    let from_8 = part_back bytes 8 4 _ (within 12 (lit≤ tt)) under from_12 in
+    part_back bytes 0 8 _ (within 8 (lit≤ tt)) under from_8
 
 worth_front : (bytes : List ℕ) (at most width : ℕ) → width ≤ most → worth_at (take (at + most) bytes) at width ≡ worth_at bytes at width
 worth_front bytes at most width low = ap (λ (p : List ℕ). worth (take width p)) (drop-take at most bytes) ∙ ap worth (take-take width most (drop at bytes) low)

@@ -89,11 +89,11 @@ opening_exact o (a ∷ b ∷ body) u e =
 -- ---- over a lawful kind of payload and a lawful kind of time
 
 module _ {P T : Type 0} (k : Forms P T)
-    (small : (t : T) → k.word t < 2 ^ 64) (time-back : (t : T) → k.time (k.word t) ≡ Some t) (time-only : (w : ℕ) (t : T) → k.time w ≡ Some t → k.word t ≡ w)
+    (small : (t : T) → k.word t < 2 ^ 64) (time_back : (t : T) → k.time (k.word t) ≡ Some t) (time_only : (w : ℕ) (t : T) → k.time w ≡ Some t → k.word t ≡ w)
     (sized : (p : P) (rest : List ℕ) → k.size (k.layout p ++ rest) ≡ length (k.layout p)) (again : (p : P) (rest : List ℕ) → k.parsed (k.layout p ++ rest) ≡ Some p)
     (exact : (bs : List ℕ) (p : P) → AllBelowBase 256 bs → k.parsed bs ≡ Some p → k.layout p ≡ take (k.size bs) bs) where
   timed : (t : T) → k.time (worth (bytes_of 8 (k.word t))) ≡ Some t
-  timed t = ap k.time (worth_bytes 8 (k.word t) (small t)) ∙ time-back t
+  timed t = ap k.time (worth_bytes 8 (k.word t) (small t)) ∙ time_back t
 
   entry_back : (t : T) (p : P) → entry_of k (bytes_of 8 (k.word t) ++ k.layout p) ≡ Ok (t, p)
   entry_back t p =
@@ -126,7 +126,7 @@ module _ {P T : Type 0} (k : Forms P T)
       let same : e ≡ (time.0, form.0) = ok_same e (time.0, form.0) form.2 in
       let left = length-drop 8 body in
       let first : bytes_of 8 (k.word time.0) ≡ take 8 body =
-      ap (bytes_of 8) (time-only (worth (take 8 body)) time.0 (accepted_or (k.time (worth (take 8 body))) (NoTime 16 2) time.0 time.1)) ∙ front_back 8 body u (omega arith) in
+      ap (bytes_of 8) (time_only (worth (take 8 body)) time.0 (accepted_or (k.time (worth (take 8 body))) (NoTime 16 2) time.0 time.1)) ∙ front_back 8 body u (omega arith) in
       let second : k.layout form.0 ≡ drop 8 body =
       exact (drop 8 body) form.0 (All-drop (λ b. b < 256) 8 body u) (accepted_or (k.parsed (drop 8 body)) (OutOfRange 16 18) form.0 form.1) ∙ take_all (k.size (drop 8 body)) (drop 8 body) (omega arith) in
       ap (λ f. bytes_of 8 (k.word f.0) ++ k.layout f.1) same
@@ -142,7 +142,7 @@ module _ {P T : Type 0} (k : Forms P T)
       let left = length-drop 2 body in
       let first : bytes_of 2 (worth (take 2 body)) ≡ take 2 body = front_back 2 body u (omega arith) in
       let second : bytes_of 8 (k.word time.0) ≡ drop 2 body =
-      ap (bytes_of 8) (time-only w time.0 (accepted_or (k.time w) (NoTime code 6) time.0 time.1)) ∙ whole_back 8 (drop 2 body) (All-drop (λ b. b < 256) 2 body u) (omega arith) in
+      ap (bytes_of 8) (time_only w time.0 (accepted_or (k.time w) (NoTime code 6) time.0 time.1)) ∙ whole_back 8 (drop 2 body) (All-drop (λ b. b < 256) 2 body u) (omega arith) in
       ap (λ p. bytes_of 2 p.0 ++ bytes_of 8 (k.word p.1)) same
       ∙ ap (λ l. l ++ bytes_of 8 (k.word time.0)) first ∙ ap (λ l. take 2 body ++ l) second ∙ take-append-drop 2 body
 

@@ -68,8 +68,8 @@ pair_back : (c d v w : ℕ) → digit c ≡ Some v → digit d ≡ Some w → (d
 pair_back c d v w first second =
     let high : value c ≡ v = ap (λ o. unwrap_or o 0) first in
     let low : value d ≡ w = ap (λ o. unwrap_or o 0) second in
-    let below-c = digit_below c v first in
-    let below-d = digit_below d w second in
+    let below_c = digit_below c v first in
+    let below_d = digit_below d w second in
     let quotient : (value c * 16 + value d) / 16 ≡ v = omega arith in
     let remainder : (value c * 16 + value d) % 16 ≡ w = omega arith in
     (ap digit_of quotient ∙ digit_is c v first, ap digit_of remainder ∙ digit_is d w second)

@@ -20,7 +20,7 @@ use Rattle.questions.specs.Standing.{Standing}
 use Rattle.questions.proofs.Stands.{standing_reads, standing_height}
 use Rattle.insertion.specs.Inserting.{insert_cost, Grown, Inserts, Inserted}
 
-module _ {E St T : Type 0} (e : effect.Ghosts E St) (t : time.Ghosts T) (effects-back : (f : E) → e.reads (e.words f) ≡ Some f) (times-back : (a : T) → t.reads (t.word a) ≡ Some a) (laws : TimeLaws t.upto)
+module _ {E St T : Type 0} (e : effect.Ghosts E St) (t : time.Ghosts T) (effects_back : (f : E) → e.reads (e.words f) ≡ Some f) (times_back : (a : T) → t.reads (t.word a) ≡ Some a) (laws : TimeLaws t.upto)
     (m n : Meaning) (k : ℕ) (op : Operation E T) (stands : Standing e t m.cells k) (newest : Below op.number (read_from e t m.cells k)) where
   made_of : (answer : Result (Side E) Fault) → Inserts e t m n k op answer → Room m (insert_cost (height stands.tree)) →
       Made e t m n answer (entered (kinds e t) op (operations stands.tree)) (Grown (height stands.tree))
@@ -29,7 +29,7 @@ module _ {E St T : Type 0} (e : effect.Ghosts E St) (t : time.Ghosts T) (effects
   entered_as : (answer : Result (Side E) Fault) (most : ℕ) → insert_cost (height stands.tree) ≤ most → Inserts e t m n k op answer → Room m (insert_cost (height stands.tree)) → Inserted e t m n k op (numbered answer) most
   entered_as answer most cost inserts room =
       let made = made_of answer inserts room in
-      let reads = standing_reads e t effects-back times-back m.cells k stands in
+      let reads = standing_reads e t effects_back times_back m.cells k stands in
       let below : Below op.number (operations stands.tree) = subst (Below op.number) reads newest in
       let fits = made.fits in
       record {
@@ -37,7 +37,7 @@ module _ {E St T : Type 0} (e : effect.Ghosts E St) (t : time.Ghosts T) (effects
         new = made.new;
         is = ap numbered made.good;
         stands = record { tree = made.tree; at = refl; kept = made.kept; sorted = subst (Sorted (kinds e t)) (sym made.reads) (sorted_entered (kinds e t) laws op (operations stands.tree) below stands.sorted) };
-        reads = reads_kept e t effects-back times-back n.cells made.tree made.kept ∙ made.reads ∙ ap (entered (kinds e t) op) (sym reads);
+        reads = reads_kept e t effects_back times_back n.cells made.tree made.kept ∙ made.reads ∙ ap (entered (kinds e t) op) (sym reads);
         gained = made.gained;
         few = omega arith;
       }
@@ -48,7 +48,7 @@ module _ {E St T : Type 0} (e : effect.Ghosts E St) (t : time.Ghosts T) (effects
 
   -- where a claim of 42 was
   ample : fault_of m 42 ≡ None → length (read_from e t m.cells k) ≤ 1023 → Room m 42 × (height stands.tree ≤ 14)
-  ample claim few = (room_from m 42 claim, at_most_14 e t m.cells stands.tree stands.kept (subst (λ w. length w ≤ 1023) (standing_reads e t effects-back times-back m.cells k stands) few))
+  ample claim few = (room_from m 42 claim, at_most_14 e t m.cells stands.tree stands.kept (subst (λ w. length w ≤ 1023) (standing_reads e t effects_back times_back m.cells k stands) few))
 
   pub inserted : (answer : Result (Side E) Fault) → Inserts e t m n k op answer → fault_of m (insert_cost (height_at m.cells k)) ≡ None → Inserted e t m n k op (numbered answer) (insert_cost (height_at m.cells k))
   inserted answer inserts claim = entered_as answer (insert_cost (height_at m.cells k)) (omega (arith, standing_height e t m.cells k stands)) inserts (exact claim)

@@ -48,7 +48,7 @@ module _ {E St T S : Type 0} (e : effect.Ghosts E St) (t : time.Ghosts T) (s : s
   pub newest_few : count (latest_belief (shown e t s l).beliefs) ≤ l.latest
   newest_few = omega (arith, latest_row.counted, latest_row.few, ap count (newest_at empty))
 
-module _ {E St T S : Type 0} (e : effect.Ghosts E St) (t : time.Ghosts T) (s : store.Ghosts S) (effects-back : (f : E) → e.reads (e.words f) ≡ Some f) (times-back : (a : T) → t.reads (t.word a) ≡ Some a) (l : Ledger E T S) (h : Stands e t s l) (room : l.latest < 1023) where
+module _ {E St T S : Type 0} (e : effect.Ghosts E St) (t : time.Ghosts T) (s : store.Ghosts S) (effects_back : (f : E) → e.reads (e.words f) ≡ Some f) (times_back : (a : T) → t.reads (t.word a) ≡ Some a) (l : Ledger E T S) (h : Stands e t s l) (room : l.latest < 1023) where
   pub entry_put : (at : T) (effect : E) (root : ℕ) (n : S) (got : Result ℕ Fault) (new_root : ℕ) → claimed (s.meaning l.store) 42 ≡ Ok tt → read_from e t (s.meaning l.store).cells root ≡ latest_belief (shown e t s l).beliefs → Inserted e t (s.meaning l.store) (s.meaning n) root (record { number = l.latest + 1; time = at; effect = effect }) got 42 → got ≡ Ok new_root →
       Put e t s (shown e t s l) (Enter at effect) (over e t s l n) new_root (Some at) × (count (read_from e t (s.meaning n).cells new_root) ≡ count (latest_belief (shown e t s l).beliefs) + 1)
   entry_put at effect root n got new_root claim newest made is =
@@ -59,12 +59,12 @@ module _ {E St T S : Type 0} (e : effect.Ghosts E St) (t : time.Ghosts T) (s : s
       let stands : Standing e t (s.meaning n).cells new_root = subst (Standing e t (s.meaning n).cells) same made.stands in
       let reads : read_from e t (s.meaning n).cells new_root ≡ entered (kinds e t) op old = ap (read_from e t (s.meaning n).cells) (sym same) ∙ made.reads ∙ ap (entered (kinds e t) op) newest in
       let counts : count (read_from e t (s.meaning n).cells new_root) ≡ count old + 1 = ap count reads ∙ length_entered (kinds e t) op old in
-      let verdict-is = entry_verdict e t m l.rows l.latest (omega (arith, h.rows)) (claimed m 42) at effect empty room ∙ ap (λ c. granted c (entered (kinds e t) op (read_from e t m.cells (get_or l.rows l.latest empty).root))) claim ∙ ap (λ b. granted (Ok tt) (entered (kinds e t) op b)) (sym (newest_at e t s l h empty)) in
+      let verdict_is = entry_verdict e t m l.rows l.latest (omega (arith, h.rows)) (claimed m 42) at effect empty room ∙ ap (λ c. granted c (entered (kinds e t) op (read_from e t m.cells (get_or l.rows l.latest empty).root))) claim ∙ ap (λ b. granted (Ok tt) (entered (kinds e t) op b)) (sym (newest_at e t s l h empty)) in
       let next : Next e t s (over e t s l n) new_root (Some at) = record {
-        stands = λ row root_is entered-is count-is.
+        stands = λ row root_is entered_is count_is.
             entry_stands e t (s.meaning n).cells l.rows (l.latest + 1) (omega (arith, h.rows)) row old (newest_below e t s l h) (newest_entered e t s l h)
             (subst (Standing e t (s.meaning n).cells) (sym root_is) stands)
-            (count-is ∙ ap (λ r. count (read_from e t (s.meaning n).cells r)) (sym root_is))
-            (omega (arith, counts, newest_few e t s l h)) op refl entered-is (ap (read_from e t (s.meaning n).cells) root_is ∙ reads);
+            (count_is ∙ ap (λ r. count (read_from e t (s.meaning n).cells r)) (sym root_is))
+            (omega (arith, counts, newest_few e t s l h)) op refl entered_is (ap (read_from e t (s.meaning n).cells) root_is ∙ reads);
       } in
-      (cells_put e t s effects-back times-back l h n made.new made.gained (Enter at effect) (entered (kinds e t) op old) new_root (Some at) verdict-is made.few reads next, counts)
+      (cells_put e t s effects_back times_back l h n made.new made.gained (Enter at effect) (entered (kinds e t) op old) new_root (Some at) verdict_is made.few reads next, counts)

@@ -27,9 +27,9 @@ module _ {E St T : Type 0} (e : effect.Ghosts E St) (t : time.Ghosts T) where
   pub standing_more : (cells more : List Cell) (k : ℕ) → Standing e t cells k → Standing e t (cells ++ more) k
   standing_more cells more k h = record { tree = h.tree; at = h.at; kept = kept_more e t cells more h.tree h.kept; sorted = h.sorted }
 
-  module _ (effects-back : (f : E) → e.reads (e.words f) ≡ Some f) (times-back : (a : T) → t.reads (t.word a) ≡ Some a) where
+  module _ (effects_back : (f : E) → e.reads (e.words f) ≡ Some f) (times_back : (a : T) → t.reads (t.word a) ≡ Some a) where
     pub reads_more : (cells more : List Cell) (k : ℕ) → Standing e t cells k → read_from e t (cells ++ more) k ≡ read_from e t cells k
-    reads_more cells more k h = subst (λ r. read_from e t (cells ++ more) r ≡ read_from e t cells r) h.at (reads_later e t effects-back times-back cells more h.tree h.kept)
+    reads_more cells more k h = subst (λ r. read_from e t (cells ++ more) r ≡ read_from e t cells r) h.at (reads_later e t effects_back times_back cells more h.tree h.kept)
 
     -- a row stands with more cells
     pub row_with_cells : (cells more : List Cell) (rows : List (Row T)) (b : ℕ) (row : Row T) → RowStands e t cells rows b row → RowStands e t (cells ++ more) rows b row

@@ -39,7 +39,7 @@ module _ {E St T S : Type 0} (e : effect.Ghosts E St) (t : time.Ghosts T) (s : s
     unfolding beliefs_of
     shown_row = rows_push l.rows l.latest (omega (arith, h.rows)) (λ x. read_from e t (s.meaning l.store).cells x.root) row (omega (arith, h.rows))
 
-  module _ (effects-back : (f : E) → e.reads (e.words f) ≡ Some f) (times-back : (a : T) → t.reads (t.word a) ≡ Some a) (l : Ledger E T S) (h : Stands e t s l) (n : S) (new : List Cell) (gained : s.meaning n ≡ with_cells (s.meaning l.store) new) where
+  module _ (effects_back : (f : E) → e.reads (e.words f) ≡ Some f) (times_back : (a : T) → t.reads (t.word a) ≡ Some a) (l : Ledger E T S) (h : Stands e t s l) (n : S) (new : List Cell) (gained : s.meaning n ≡ with_cells (s.meaning l.store) new) where
     pub grown : (s.meaning n).cells ≡ (s.meaning l.store).cells ++ new
     grown = ap (λ x. x.cells) gained
 
@@ -48,7 +48,7 @@ module _ {E St T S : Type 0} (e : effect.Ghosts E St) (t : time.Ghosts T) (s : s
       sound = sound;
       rows = h.rows;
       latest = h.latest;
-      each = λ b d inside. subst (λ c. RowStands e t c l.rows b (get_or l.rows b d)) (sym grown) (row_with_cells e t effects-back times-back (s.meaning l.store).cells new l.rows b (get_or l.rows b d) (h.each b d inside));
+      each = λ b d inside. subst (λ c. RowStands e t c l.rows b (get_or l.rows b d)) (sym grown) (row_with_cells e t effects_back times_back (s.meaning l.store).cells new l.rows b (get_or l.rows b d) (h.each b d inside));
     }
 
     shown_put : (shown e t s (over e t s l n)).beliefs ≡ (shown e t s l).beliefs
@@ -57,7 +57,7 @@ module _ {E St T S : Type 0} (e : effect.Ghosts E St) (t : time.Ghosts T) (s : s
         rows_same l.rows l.latest (omega (arith, h.rows, h.latest)) (λ x. read_from e t (s.meaning l.store).cells x.root) (λ x. read_from e t (s.meaning n).cells x.root) empty
         (λ b inside.
         let root = (get_or l.rows b empty).root in
-        ap (λ c. read_from e t c root) grown ∙ reads_more e t effects-back times-back (s.meaning l.store).cells new root (h.each b empty inside).tree)
+        ap (λ c. read_from e t c root) grown ∙ reads_more e t effects_back times_back (s.meaning l.store).cells new root (h.each b empty inside).tree)
 
     pub cells_put : (c : Call E T) (belief : Belief E T) (root : ℕ) (entered : Option T) → verdict (kinds e t) (shown e t s l).beliefs c (claimed (s.meaning l.store) (claim_of c)) ≡ makes belief → length new ≤ claim_of c → read_from e t (s.meaning n).cells root ≡ belief → Next e t s (over e t s l n) root entered →
         Put e t s (shown e t s l) c (over e t s l n) root entered

@@ -95,13 +95,13 @@ module _ {E T St : Type 0} (k : Kinds E T St) where
   -- a change that the reference ledger accepts: one belief more, and as many cells as are answered
   pub made_step : (c : Call E T) (v : View E T) (belief : Belief E T) (n : Meaning) (new : List Cell) → verdict k v.beliefs c (claimed v.store (claim_of c)) ≡ makes belief → n ≡ with_cells v.store new → length new ≤ claim_of c →
       (number cells : ℕ) (before after : View E T) → before ≡ v → after.beliefs ≡ v.beliefs ++ (belief ∷ []) → after.store ≡ n → number ≡ length v.beliefs → cells ≡ length n.cells - length v.store.cells → Step k c (Ok (Changed (number, cells))) before after
-  made_step c v belief n new made gained few number cells before after before-is beliefs-are Store-is number_is cells_are =
+  made_step c v belief n new made gained few number cells before after before_is beliefs_are store_is number_is cells_are =
       let count : cells ≡ length new = omega (arith, ap (λ x. length x.cells) gained, length-append v.store.cells new) in
       let P : Verdict E T St → Type 0 = λ x. Outcome x (claim_of c) (Ok (Changed (number, cells))) v after in
       let grows : Grows {S = St} belief (claim_of c) (Ok (Changed (number, cells))) v after = record {
         gained = new;
         few = few;
         answer = ap (λ x. Ok (Changed (x, cells))) number_is ∙ ap (λ x. Ok (Changed (length v.beliefs, x))) count;
-        after = view_is after (v.beliefs ++ (belief ∷ [])) (with_cells v.store new) beliefs-are (Store-is ∙ gained);
+        after = view_is after (v.beliefs ++ (belief ∷ [])) (with_cells v.store new) beliefs_are (store_is ∙ gained);
       } in
-      subst (λ u. Step k c (Ok (Changed (number, cells))) u after) (sym before-is) (subst P (sym made) grows)
+      subst (λ u. Step k c (Ok (Changed (number, cells))) u after) (sym before_is) (subst P (sym made) grows)

@@ -35,10 +35,10 @@ module _ {E St T S : Type 0} (e : effect.Ghosts E St) (t : time.Ghosts T) (s : s
   pub there : (l : Ledger E T S) (root n : ℕ) (at : T) → read_from e t (s.meaning l.store).cells root ≡ latest_belief (shown e t s l).beliefs → has n (latest_belief (shown e t s l).beliefs) ≡ true → Timed n at (latest_belief (shown e t s l).beliefs) → order.has (kinds e t) n at (read_from e t (s.meaning l.store).cells root) ≡ true
   there l root n at newest found timed = ap (order.has (kinds e t) n at) newest ∙ has_timed (kinds e t) laws n at (latest_belief (shown e t s l).beliefs) timed ∙ found
 
-module _ {E St T S : Type 0} (e : effect.Ghosts E St) (t : time.Ghosts T) (s : store.Ghosts S) (effects-back : (f : E) → e.reads (e.words f) ≡ Some f) (times-back : (a : T) → t.reads (t.word a) ≡ Some a) (laws : TimeLaws t.upto) (l : Ledger E T S) (h : Stands e t s l) (room : l.latest < 1023) where
+module _ {E St T S : Type 0} (e : effect.Ghosts E St) (t : time.Ghosts T) (s : store.Ghosts S) (effects_back : (f : E) → e.reads (e.words f) ≡ Some f) (times_back : (a : T) → t.reads (t.word a) ≡ Some a) (laws : TimeLaws t.upto) (l : Ledger E T S) (h : Stands e t s l) (room : l.latest < 1023) where
   -- the latest belief is in order
   newest_sorted : (root : ℕ) → Standing e t (s.meaning l.store).cells root → read_from e t (s.meaning l.store).cells root ≡ latest_belief (shown e t s l).beliefs → Sorted (kinds e t) (latest_belief (shown e t s l).beliefs)
-  newest_sorted root tree newest = subst (Sorted (kinds e t)) (sym (standing_reads e t effects-back times-back (s.meaning l.store).cells root tree) ∙ newest) tree.sorted
+  newest_sorted root tree newest = subst (Sorted (kinds e t)) (sym (standing_reads e t effects_back times_back (s.meaning l.store).cells root tree) ∙ newest) tree.sorted
 
   pub withdrawal_put : (n : ℕ) (at : T) (root : ℕ) (after : S) (got : Result (Option ℕ) Fault) (new_root : ℕ) → has n (latest_belief (shown e t s l).beliefs) ≡ true → Timed n at (latest_belief (shown e t s l).beliefs) → claimed (s.meaning l.store) 42 ≡ Ok tt → Standing e t (s.meaning l.store).cells root → read_from e t (s.meaning l.store).cells root ≡ latest_belief (shown e t s l).beliefs → Removed e t (s.meaning l.store) (s.meaning after) root n at got 42 → got ≡ Ok (Some new_root) →
       Put e t s (shown e t s l) (Withdraw n) (over e t s l after) new_root None × (count (read_from e t (s.meaning after).cells new_root) + 1 ≡ count (latest_belief (shown e t s l).beliefs))
@@ -51,12 +51,12 @@ module _ {E St T S : Type 0} (e : effect.Ghosts E St) (t : time.Ghosts T) (s : s
       let reads : read_from e t (s.meaning after).cells new_root ≡ without n old = ap (read_from e t (s.meaning after).cells) (sym same) ∙ made.reads ∙ ap (struck (kinds e t) n at) newest ∙ struck_without (kinds e t) laws n at old timed in
       let less : count (without n old) + 1 ≡ count old = count_without (kinds e t) laws n at old (newest_sorted root tree newest) timed found in
       let counts : count (read_from e t (s.meaning after).cells new_root) + 1 ≡ count old = omega (arith, ap count reads, less) in
-      let verdict-is = withdrawal_verdict e t m l.rows l.latest (omega (arith, h.rows)) (claimed m 42) n empty room (ap (has n) (sym here) ∙ found) ∙ ap (λ c. granted c (without n (read_from e t m.cells (get_or l.rows l.latest empty).root))) claim ∙ ap (λ b. granted (Ok tt) (without n b)) (sym here) in
+      let verdict_is = withdrawal_verdict e t m l.rows l.latest (omega (arith, h.rows)) (claimed m 42) n empty room (ap (has n) (sym here) ∙ found) ∙ ap (λ c. granted c (without n (read_from e t m.cells (get_or l.rows l.latest empty).root))) claim ∙ ap (λ b. granted (Ok tt) (without n b)) (sym here) in
       let next : Next e t s (over e t s l after) new_root None = record {
-        stands = λ row root_is entered-is count-is.
+        stands = λ row root_is entered_is count_is.
             withdrawal_stands e t (s.meaning after).cells l.rows (l.latest + 1) (omega (arith, h.rows)) row old (newest_below e t s l h) (newest_entered e t s l h)
             (subst (Standing e t (s.meaning after).cells) (sym root_is) stands)
-            (count-is ∙ ap (λ r. count (read_from e t (s.meaning after).cells r)) (sym root_is))
+            (count_is ∙ ap (λ r. count (read_from e t (s.meaning after).cells r)) (sym root_is))
             (omega (arith, counts, newest_few e t s l h)) n (ap (read_from e t (s.meaning after).cells) root_is ∙ reads);
       } in
-      (cells_put e t s effects-back times-back l h after made.new made.gained (Withdraw n) (without n old) new_root None verdict-is made.few reads next, counts)
+      (cells_put e t s effects_back times_back l h after made.new made.gained (Withdraw n) (without n old) new_root None verdict_is made.few reads next, counts)

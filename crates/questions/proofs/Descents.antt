@@ -70,9 +70,9 @@ module _ {E St T : Type 0} (e : effect.Ghosts E St) (t : time.Ghosts T) where
         let here : t.upto p.time at ≡ true = subst (λ w. t.upto w.op.time at ≡ true) is test in
         let own : Option (ℕ × T) = Some (p.number, p.time) in
         let is_later : later ≡ latest (kinds e t) (operations b) at = same_answer _ _ (right_answer m m' got (λ belief. latest (kinds e t) belief at) (Ok later) a b p same is rest kb sorted) in
-        let is-own : last ≡ option_or later own = subst (λ w. last ≡ option_or later (Some (w.op.number, w.op.time))) is is_last in
+        let is_own : last ≡ option_or later own = subst (λ w. last ≡ option_or later (Some (w.op.number, w.op.time))) is is_last in
         let rest = until (kinds e t) at (operations b) in
-        ap Ok (is-own ∙ ap (λ w. option_or w own) is_later ∙ sym (last_or own rest) ∙ sym (folded_append (λ _ o. Some (o.number, o.time)) None (operations a) (p ∷ rest))
+        ap Ok (is_own ∙ ap (λ w. option_or w own) is_later ∙ sym (last_or own rest) ∙ sym (folded_append (λ _ o. Some (o.number, o.time)) None (operations a) (p ∷ rest))
         ∙ ap (λ w. fold (λ _ o. Some (o.number, o.time)) None w) (sym (until_right (kinds e t) laws at p (operations a) (operations b) here sorted))))
 
     -- no descent to the right is refused

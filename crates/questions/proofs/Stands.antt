@@ -20,9 +20,9 @@ module _ {E St T : Type 0} (e : effect.Ghosts E St) (t : time.Ghosts T) where
   pub standing_height : (cells : List Cell) (k : ℕ) (s : Standing e t cells k) → height_at cells k ≡ height s.tree
   standing_height cells k s = subst (λ w. height_at cells w ≡ height s.tree) s.at (height_kept e t cells s.tree s.kept)
 
-  module _ (effects-back : (f : E) → e.reads (e.words f) ≡ Some f) (times-back : (a : T) → t.reads (t.word a) ≡ Some a) where
+  module _ (effects_back : (f : E) → e.reads (e.words f) ≡ Some f) (times_back : (a : T) → t.reads (t.word a) ≡ Some a) where
     pub standing_reads : (cells : List Cell) (k : ℕ) (s : Standing e t cells k) → read_from e t cells k ≡ operations s.tree
-    standing_reads cells k s = subst (λ w. read_from e t cells w ≡ operations s.tree) s.at (reads_kept e t effects-back times-back cells s.tree s.kept)
+    standing_reads cells k s = subst (λ w. read_from e t cells w ≡ operations s.tree) s.at (reads_kept e t effects_back times_back cells s.tree s.kept)
 
     -- every older root reads as before
     pub standing_reads_later : (cells more : List Cell) (k : ℕ) → Standing e t cells k → read_from e t (cells ++ more) k ≡ read_from e t cells k

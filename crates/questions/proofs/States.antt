@@ -37,12 +37,12 @@ module _ {E St T : Type 0} (e : effect.Ghosts E St) (t : time.Ghosts T) (follows
       t.upto got.op.time at ≡ true → ((s : Tree E T) → root s ≡ got.left → Kept e t m'.cells s → ◌≡◌ {A = Result (Side E) Fault} (Ok known) (Ok (side e t s))) →
       middle ≡ acted e.acts known.total from → next ≡ e.acts got.op.effect middle →
       Carries e t m'' got.right at next answer → Carries e t m k at from answer
-  carry_right m m' m'' k at from middle next got known answer some same same' reads test whole is-middle is-next rest =
+  carry_right m m' m'' k at from middle next got known answer some same same' reads test whole is_middle is_next rest =
       at_node e t m k got (λ belief. fold (λ s o. e.acts o.effect s) from (until (kinds e t) at belief)) answer some reads (λ a b p is ka kb sorted.
       let here : t.upto p.time at ≡ true = subst (λ w. t.upto w.op.time at ≡ true) is test in
       let sided : known ≡ side e t a = same_answer _ _ (whole a (sym (ap (λ w. w.left) is)) (subst (λ w. Kept e t w.cells a) (sym same) ka)) in
-      let one : middle ≡ fold (λ s o. e.acts o.effect s) from (operations a) = is-middle ∙ ap (λ w. acted e.acts w.total from) sided ∙ total_acts e.acts e.composed follows a from in
-      let two : next ≡ e.acts p.effect (fold (λ s o. e.acts o.effect s) from (operations a)) = is-next ∙ ap (λ w. e.acts w.op.effect middle) is ∙ ap (e.acts p.effect) one in
+      let one : middle ≡ fold (λ s o. e.acts o.effect s) from (operations a) = is_middle ∙ ap (λ w. acted e.acts w.total from) sided ∙ total_acts e.acts e.composed follows a from in
+      let two : next ≡ e.acts p.effect (fold (λ s o. e.acts o.effect s) from (operations a)) = is_next ∙ ap (λ w. e.acts w.op.effect middle) is ∙ ap (e.acts p.effect) one in
       let three = right_answer e t m m'' got (λ belief. fold (λ s o. e.acts o.effect s) next (until (kinds e t) at belief)) answer a b p (same' ∙ same) is rest kb sorted in
       three ∙ ap Ok (ap (λ w. fold (λ s o. e.acts o.effect s) w (until (kinds e t) at (operations b))) two
       ∙ sym (folded_append (λ s o. e.acts o.effect s) from (operations a) (p ∷ until (kinds e t) at (operations b)))

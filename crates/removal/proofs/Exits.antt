@@ -29,7 +29,7 @@ found_there found there h i j = let z : ◌≡◌ {A = Bool} true false = cc in 
 pub not_there : {F P : Type 0} (found there : Bool) → found ≡ false → ◌≡◌ {A = Result Bool F} (Ok found) (Ok there) → there ≡ true → P
 not_there found there h i j = let z : ◌≡◌ {A = Bool} true false = cc in absurd (both_ways true z refl)
 
-module _ {E St T : Type 0} (e : effect.Ghosts E St) (t : time.Ghosts T) (effects-back : (f : E) → e.reads (e.words f) ≡ Some f) (times-back : (a : T) → t.reads (t.word a) ≡ Some a) (laws : TimeLaws t.upto)
+module _ {E St T : Type 0} (e : effect.Ghosts E St) (t : time.Ghosts T) (effects_back : (f : E) → e.reads (e.words f) ≡ Some f) (times_back : (a : T) → t.reads (t.word a) ≡ Some a) (laws : TimeLaws t.upto)
     (m m' n : Meaning) (k : ℕ) (x : Operation E T) (same : m' ≡ m) (stands : Standing e t m.cells k) where
   made_of : (answer : Result (Side E) Fault) → TakesOut e t m' n k x answer → Room m (remove_cost (height stands.tree)) →
       Made e t m n answer (struck (kinds e t) x.number x.time (operations stands.tree)) (Shrunk (height stands.tree))
@@ -39,14 +39,14 @@ module _ {E St T : Type 0} (e : effect.Ghosts E St) (t : time.Ghosts T) (effects
       Removed e t m n k x.number x.time (Ok (Some side.number)) most
   removed_as side most cost takes room =
       let made = made_of (Ok side) takes room in
-      let reads = standing_reads e t effects-back times-back m.cells k stands in
+      let reads = standing_reads e t effects_back times_back m.cells k stands in
       let fits = made.fits in
       record {
         new_root = root made.tree;
         new = made.new;
         is = ap (λ s. Ok (Some s.number)) (same_answer _ _ made.good);
         stands = record { tree = made.tree; at = refl; kept = made.kept; sorted = subst (Sorted (kinds e t)) (sym made.reads) (sorted_kept (kinds e t) (λ o. not (is_at (kinds e t) x.number x.time o)) (operations stands.tree) stands.sorted) };
-        reads = reads_kept e t effects-back times-back n.cells made.tree made.kept ∙ made.reads ∙ ap (struck (kinds e t) x.number x.time) (sym reads);
+        reads = reads_kept e t effects_back times_back n.cells made.tree made.kept ∙ made.reads ∙ ap (struck (kinds e t) x.number x.time) (sym reads);
         gained = made.gained;
         few = omega arith;
       }
@@ -57,7 +57,7 @@ module _ {E St T : Type 0} (e : effect.Ghosts E St) (t : time.Ghosts T) (effects
 
   -- where a claim of 42 was
   ample : fault_of m 42 ≡ None → length (read_from e t m.cells k) ≤ 1023 → Room m 42 × (height stands.tree ≤ 14)
-  ample claim few = (room_from m 42 claim, at_most_14 e t m.cells stands.tree stands.kept (subst (λ w. length w ≤ 1023) (standing_reads e t effects-back times-back m.cells k stands) few))
+  ample claim few = (room_from m 42 claim, at_most_14 e t m.cells stands.tree stands.kept (subst (λ w. length w ≤ 1023) (standing_reads e t effects_back times_back m.cells k stands) few))
 
   pub removed : (side : Side E) → TakesOut e t m' n k x (Ok side) → fault_of m (remove_cost (height_at m.cells k)) ≡ None →
       Removed e t m n k x.number x.time (Ok (Some side.number)) (remove_cost (height_at m.cells k))

@@ -70,16 +70,16 @@ module _ {E P St T : Type 0} (p : payload.Ghosts E P St) (e : effect.Ghosts E St
     turn (asks code call) answer before after cs tail xs w h run = (h.reply ∷ xs, then h.step run, ap (λ a. a ++ tail xs) (sym h.line))
 
     -- one item more
-    pub onward_more : (all ls left : List text.Line) (i : Item) (answer : Option Line) (out so_far now-out : List ℕ) (v : View E T) (before after : Ledger E T S) → Takes ls (Some i) left → Hears e t s (said p.entered (forms p t) (held i)) answer before after → now-out ≡ so_far ++ written answer
-        → Onward all ls out so_far v (shown e t s before) → Onward all left out now-out v (shown e t s after)
-    onward_more all ls left i answer out so_far now-out v before after takes hears grown h = record {
+    pub onward_more : (all ls left : List text.Line) (i : Item) (answer : Option Line) (out so_far now_out : List ℕ) (v : View E T) (before after : Ledger E T S) → Takes ls (Some i) left → Hears e t s (said p.entered (forms p t) (held i)) answer before after → now_out ≡ so_far ++ written answer
+        → Onward all ls out so_far v (shown e t s before) → Onward all left out now_out v (shown e t s after)
+    onward_more all ls left i answer out so_far now_out v before after takes hears grown h = record {
       on = λ xs w run.
           let found = took ls i left takes in
           let l = found.0 in
           let heard = subst (λ x. Hears e t s (said p.entered (forms p t) x) answer before after) found.2 hears in
           let one = turn (said p.entered (forms p t) (part l)) answer before after (calls_of left) (output_of left) xs w heard run in
-          let rest-run = subst (λ x. Run (kinds e t) (calls_of x) one.0 (shown e t s before) w) (sym found.1) one.1 in
-          let done = h.on one.0 w rest-run in (
+          let rest_run = subst (λ x. Run (kinds e t) (calls_of x) one.0 (shown e t s before) w) (sym found.1) one.1 in
+          let done = h.on one.0 w rest_run in (
             done.0,
             done.1,
             done.2 ∙ ap (λ x. so_far ++ output_of x one.0) found.1 ∙ ap (λ x. so_far ++ x) one.2 ∙ sym (append_assoc so_far (written answer) (output_of left xs)) ∙ ap (λ x. x ++ output_of left xs) (sym grown),

@@ -7,9 +7,9 @@ use Rattle.store.specs.declared.Store as store
 use Rattle.counter.specs.contracts.kind.CounterEffect.TheImpl.{ghosts as counters}
 use Rattle.settings.specs.contracts.kind.SettingsEffect.TheImpl.{ghosts as settings}
 use Rattle.status.specs.contracts.kind.TransitionsEffect.TheImpl.{ghosts as statuses}
-use Rattle.payloads.specs.contracts.counters.CounterPayload.TheImpl.{ghosts as counter-payloads}
-use Rattle.payloads.specs.contracts.setups.SettingsPayload.TheImpl.{ghosts as settings-payloads}
-use Rattle.payloads.specs.contracts.events.TransitionsPayload.TheImpl.{ghosts as event-payloads}
+use Rattle.payloads.specs.contracts.counters.CounterPayload.TheImpl.{ghosts as counter_payloads}
+use Rattle.payloads.specs.contracts.setups.SettingsPayload.TheImpl.{ghosts as settings_payloads}
+use Rattle.payloads.specs.contracts.events.TransitionsPayload.TheImpl.{ghosts as event_payloads}
 use Rattle.times.specs.contracts.clock.kind.ClockTime.TheImpl.{ghosts as clocks}
 use Rattle.times.specs.contracts.place.kind.PlaceTime.TheImpl.{ghosts as places}
 use Rattle.reference.specs.Beliefs.{kinds}
@@ -71,12 +71,12 @@ module _ {S : Type 0} (s : store.Ghosts S) where
   -- the record is open with the kinds of the opening, and was kept so
   abbrev pub KeptBy : Opening → Meaning → List Line → Record S → List ℕ → Type 0
   KeptBy o m lines (Closed below) out = ⊥
-  KeptBy o m lines (OfCounterClock x) out = (o.effects ≡ Counter) × (o.times ≡ Clock) × Kept counter-payloads counters clocks m lines x.ledger out
-  KeptBy o m lines (OfCounterPlace x) out = (o.effects ≡ Counter) × (o.times ≡ Place) × Kept counter-payloads counters places m lines x.ledger out
-  KeptBy o m lines (OfSettingsClock x) out = (o.effects ≡ Settings) × (o.times ≡ Clock) × Kept settings-payloads settings clocks m lines x.ledger out
-  KeptBy o m lines (OfSettingsPlace x) out = (o.effects ≡ Settings) × (o.times ≡ Place) × Kept settings-payloads settings places m lines x.ledger out
-  KeptBy o m lines (OfStatusClock x) out = (o.effects ≡ Status) × (o.times ≡ Clock) × Kept event-payloads statuses clocks m lines x.ledger out
-  KeptBy o m lines (OfStatusPlace x) out = (o.effects ≡ Status) × (o.times ≡ Place) × Kept event-payloads statuses places m lines x.ledger out
+  KeptBy o m lines (OfCounterClock x) out = (o.effects ≡ Counter) × (o.times ≡ Clock) × Kept counter_payloads counters clocks m lines x.ledger out
+  KeptBy o m lines (OfCounterPlace x) out = (o.effects ≡ Counter) × (o.times ≡ Place) × Kept counter_payloads counters places m lines x.ledger out
+  KeptBy o m lines (OfSettingsClock x) out = (o.effects ≡ Settings) × (o.times ≡ Clock) × Kept settings_payloads settings clocks m lines x.ledger out
+  KeptBy o m lines (OfSettingsPlace x) out = (o.effects ≡ Settings) × (o.times ≡ Place) × Kept settings_payloads settings places m lines x.ledger out
+  KeptBy o m lines (OfStatusClock x) out = (o.effects ≡ Status) × (o.times ≡ Clock) × Kept event_payloads statuses clocks m lines x.ledger out
+  KeptBy o m lines (OfStatusPlace x) out = (o.effects ≡ Status) × (o.times ≡ Place) × Kept event_payloads statuses places m lines x.ledger out
 
   -- Of a record over a store: what the lines up to an opening gave is the output, and the record is not open; or the record was opened over
   -- its quota of that store, and the output goes on by what it wrote.

@@ -1,6 +1,6 @@
 -- What is written for the whole of an input: for the lines up to an accepted opening, and then by an open record.
 use Rattle.std.specs.Prelude.{◌≡◌, ℕ, false, List, [], ◌∷◌, ◌++◌, Some, None, Ok, Err, Option, Result}
-use Rattle.payloads.specs.contracts.counters.CounterPayload.TheImpl.{ghosts as counter-payloads}
+use Rattle.payloads.specs.contracts.counters.CounterPayload.TheImpl.{ghosts as counter_payloads}
 use Rattle.times.specs.contracts.clock.kind.ClockTime.TheImpl.{ghosts as clocks}
 use Rattle.text.specs.declared.flaw.Flaw.{Flaw}
 use Rattle.text.specs.declared.flaw.Flaw.TheVariants.{BadCode}
@@ -24,7 +24,7 @@ opening_by (Err flaw) = Err flaw
 
 -- the opening that a frame asks for; before it nothing that has a kind is read, so any kinds will do
 abbrev pub opening_in : List ℕ → Result Opening Flaw
-opening_in line = opening_by (command (forms counter-payloads clocks) false line)
+opening_in line = opening_by (command (forms counter_payloads clocks) false line)
 
 -- an accepted opening is answered by its code and 00, and any other frame by its refusal
 abbrev pub opened_by : Result Opening Flaw → List ℕ × Option Opening

@@ -70,13 +70,13 @@ module _ {E St T : Type 0} (e : effect.Ghosts E St) (t : time.Ghosts T) where
   pub height_fits : (m : Meaning) (s : Tree E T) (most : ℕ) → Kept e t m.cells s → length m.cells + m.allowance ≤ most → Room m 1 → height s < most
   height_fits m s most h bounded room = omega (arith, root_in m.cells s h, height_below m.cells s h)
 
-  module _ (effects-back : (f : E) → e.reads (e.words f) ≡ Some f) (times-back : (a : T) → t.reads (t.word a) ≡ Some a) where
+  module _ (effects_back : (f : E) → e.reads (e.words f) ≡ Some f) (times_back : (a : T) → t.reads (t.word a) ≡ Some a) where
     pub decoded : (cell : Cell) (left right : Side E) (o : Operation E T) (when : T) (effect total : E) → cell ≡ cell_of e t left o right →
         Some when ≡ t.reads cell.time → Some effect ≡ e.reads cell.own → Some total ≡ e.reads cell.total →
         ◌≡◌ {A = Node E T} (record { op = record { number = cell.number; time = when; effect = effect }; left = cell.left; right = cell.right; height = cell.height; total = total }) (node_of e t left o right)
     decoded cell left right o when effect total is a b c =
         let n = node_of e t left o right in
-        let one : when ≡ o.time = let p = rw is at a in let q = times-back o.time in cc in
-        let two : effect ≡ o.effect = let p = rw is at b in let q = effects-back o.effect in cc in
-        let three : total ≡ n.total = let p = rw is at c in let q = effects-back n.total in cc in
+        let one : when ≡ o.time = let p = rw is at a in let q = times_back o.time in cc in
+        let two : effect ≡ o.effect = let p = rw is at b in let q = effects_back o.effect in cc in
+        let three : total ≡ n.total = let p = rw is at c in let q = effects_back n.total in cc in
         rw (is, one, two, three)

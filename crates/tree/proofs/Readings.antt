@@ -14,9 +14,9 @@ module _ {E St T : Type 0} (e : effect.Ghosts E St) (t : time.Ghosts T) where
   height_kept cells leaf h = refl
   height_kept cells (node k l o r) h = ap height_in h.0
 
-  module _ (effects-back : (f : E) → e.reads (e.words f) ≡ Some f) (times-back : (a : T) → t.reads (t.word a) ≡ Some a) where
+  module _ (effects_back : (f : E) → e.reads (e.words f) ≡ Some f) (times_back : (a : T) → t.reads (t.word a) ≡ Some a) where
     own_kept : (o : Operation E T) → own o.number (t.reads (t.word o.time)) (e.reads (e.words o.effect)) ≡ o ∷ []
-    own_kept o = rw (times-back o.time, effects-back o.effect)
+    own_kept o = rw (times_back o.time, effects_back o.effect)
 
     deep_enough : (cells : List Cell) (s : Tree E T) (deep : ℕ) → Kept e t cells s → height s ≤ deep → read e t cells deep (root s) ≡ operations s
     deep_enough cells leaf zero h low = refl
