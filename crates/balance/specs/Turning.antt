@@ -6,7 +6,6 @@ use Rattle.reference.specs.declared.Operation.{Operation}
 use Rattle.store.specs.declared.fault.Fault.{Fault}
 use Rattle.store.specs.Meaning.{Meaning}
 use Rattle.tree.specs.declared.Side.{Side}
-use Rattle.tree.specs.declared.Parts.{Parts}
 use Rattle.tree.specs.Trees.{Tree, node, height, operations, side, Kept}
 use Rattle.tree.specs.Making.{Room, Made, Sides, level}
 
@@ -24,14 +23,6 @@ module _ {E St T : Type 0} (e : effect.Ghosts E St) (t : time.Ghosts T) where
       height z ≤ max (height x) (height y) + 2 → max (height x) (height y) ≤ height z → Room m 2 →
       Made e t m n answer ((operations x ++ (p ∷ operations y)) ++ (q ∷ operations z))
       (λ s count. (height s ≡ max (max (height x) (height y) + 1) (height z) + 1) × (count ≡ 2))
-
-  -- four sides, joined in pairs, and then the pairs by the operation o
-  abbrev pub JoinsPairs : Meaning → Meaning → Parts E T → Operation E T → Parts E T → Result (Side E) Fault → Type 0
-  JoinsPairs m n low op high answer = (w x y z : Tree E T) (o : Operation E T) → low.left ≡ side e t w → low.right ≡ side e t x → op ≡ o → high.left ≡ side e t y → high.right ≡ side e t z →
-      Kept e t m.cells w → Kept e t m.cells x → Kept e t m.cells y → Kept e t m.cells z →
-      height x ≤ height y + 1 → height y ≤ height x + 1 → height w ≡ max (height x) (height y) → height z ≡ height w → Room m 3 →
-      Made e t m n answer ((operations w ++ (low.op ∷ operations x)) ++ (o ∷ (operations y ++ (high.op ∷ operations z))))
-      (λ s count. (height s ≡ height w + 2) × (count ≡ 3))
 
   -- three sides of which the middle one, at cell k, is parted: its operation comes on top
   abbrev pub PartsMiddle : Meaning → Meaning → Side E → Operation E T → ℕ → Operation E T → Side E → Result (Side E) Fault → Type 0

@@ -1,10 +1,8 @@
 // Keeping a tree balanced: joins of sides whose heights differ by at most two. Nothing here looks at an effect or a time.
 #![tactic(auto)]
 
-ghost use Rattle.std.specs.Prelude.{◌≡◌, nat_lt};
-ghost use Rattle.store.specs.Meaning.{Meaning};
 ghost use Rattle.tree.specs.Making.{Grew, Joins};
-ghost use Rattle.balance.specs.Turning.{NestsRight, NestsLeft, JoinsPairs, PartsMiddle, LeansLeft, LeansRight};
+ghost use Rattle.balance.specs.Turning.{NestsRight, NestsLeft, PartsMiddle, LeansLeft, LeansRight};
 
 use effects::Effect;
 use reference::Operation;
@@ -48,23 +46,6 @@ fn nest_left<E: Effect, T: Time, S: Store>(
     join(store, low, q, c)
 }
 
-// Joins each of two operations with its sides, and then both under a third.
-fn join_pairs<E: Effect, T: Time, S: Store>(
-    store: &mut S,
-    low: Parts<E, T>,
-    op: Operation<E, T>,
-    high: Parts<E, T>,
-) -> Result<Side<E>, Fault>
-    requires { S.Store.sound store.old }
-    ensures stays { S.Store.sound store.new }
-    ensures grew { Grew S.Store store.old store.new }
-    ensures pairs { (m : Meaning) → S.Store.meaning store.old ≡ m → JoinsPairs E.Effect T.Time m (S.Store.meaning store.new) low op high result }
-{
-    let left = join(store, low.left, low.op, low.right)?;
-    let right = join(store, high.left, high.op, high.right)?;
-    join(store, left, op, right)
-}
-
 // Parts the middle of three sides, the double rotation: its root becomes the root of all.
 fn part_middle<E: Effect, T: Time, S: Store>(
     store: &mut S,
@@ -80,24 +61,9 @@ fn part_middle<E: Effect, T: Time, S: Store>(
     ensures parts { PartsMiddle E.Effect T.Time (S.Store.meaning store.old) (S.Store.meaning store.new) a p middle q d result }
 {
     let Parts { left, op, right } = open::<E, T, S>(store, middle)?;
-    let low = Parts {
-        left: a,
-        op: p,
-        right: left,
-    };
-    let high = Parts {
-        left: right,
-        op: q,
-        right: d,
-    };
-    join_pairs(store, low, op, high)
-}
-
-// Whether a double rotation is due: where the inner side is higher than the outer.
-fn needs_double<E>(outer: &Side<E>, inner: &Side<E>) -> bool
-    ensures { result ≡ nat_lt outer.now.height inner.now.height }
-{
-    outer.height < inner.height
+    let low = join(store, a, p, left)?;
+    let high = join(store, right, q, d)?;
+    join(store, low, op, high)
 }
 
 // Joins two sides of which the left is higher by two.
@@ -113,7 +79,7 @@ fn lean_left<E: Effect, T: Time, S: Store>(
     ensures leans { LeansLeft E.Effect T.Time (S.Store.meaning store.old) (S.Store.meaning store.new) left op right result }
 {
     let high = open::<E, T, S>(store, left.number)?;
-    if needs_double(&high.left, &high.right) {
+    if high.left.height < high.right.height {
         part_middle(store, high.left, high.op, high.right.number, op, right)
     } else {
         nest_right(store, high.left, high.op, high.right, op, right)
@@ -133,7 +99,7 @@ fn lean_right<E: Effect, T: Time, S: Store>(
     ensures leans { LeansRight E.Effect T.Time (S.Store.meaning store.old) (S.Store.meaning store.new) left op right result }
 {
     let high = open::<E, T, S>(store, right.number)?;
-    if needs_double(&high.right, &high.left) {
+    if high.right.height < high.left.height {
         part_middle(store, left, op, high.left.number, high.op, high.right)
     } else {
         nest_left(store, left, op, high.left, high.op, high.right)

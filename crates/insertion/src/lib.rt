@@ -4,7 +4,7 @@
 ghost use Rattle.std.specs.Prelude.{◌≡◌, ◌≤◌, length, None};
 ghost use Rattle.store.specs.Meaning.{fault_of};
 ghost use Rattle.order.specs.Order.{Below};
-ghost use Rattle.tree.specs.Trees.{numbered, Held};
+ghost use Rattle.tree.specs.Trees.{Held};
 ghost use Rattle.tree.specs.Reading.{read_from, height_at};
 ghost use Rattle.tree.specs.Making.{Grew};
 ghost use Rattle.questions.specs.Standing.{Standing};
@@ -56,23 +56,6 @@ fn insert_from<E: Effect, T: Time, S: Store>(
     }
 }
 
-// Inserts an operation, whose number is above all in the tree, and answers what is known of the new tree.
-fn insert_into<E: Effect, T: Time, S: Store>(
-    store: &mut S,
-    root: u32,
-    op: Operation<E, T>,
-) -> Result<Side<E>, Fault>
-    requires sound { S.Store.sound store.old }
-    requires stands { Standing E.Effect T.Time (S.Store.meaning store.old).cells root }
-    requires newest { Below op.number (read_from E.Effect T.Time (S.Store.meaning store.old).cells root) }
-    ensures stays { S.Store.sound store.new }
-    ensures grew { Grew S.Store store.old store.new }
-    ensures inserted { fault_of (S.Store.meaning store.old) (insert_cost (height_at (S.Store.meaning store.old).cells root)) ≡ None → Inserted E.Effect T.Time (S.Store.meaning store.old) (S.Store.meaning store.new) root op (numbered result) (insert_cost (height_at (S.Store.meaning store.old).cells root)) }
-    ensures claimed { fault_of (S.Store.meaning store.old) 42 ≡ None → length (read_from E.Effect T.Time (S.Store.meaning store.old).cells root) ≤ 1023 → Inserted E.Effect T.Time (S.Store.meaning store.old) (S.Store.meaning store.new) root op (numbered result) 42 }
-{
-    insert_from(store, root, op)
-}
-
 // Inserts an operation, whose number is above all in the tree, and answers the new root. With at most 1,023 operations
 // in the tree a claim of 42 cells makes room for it.
 pub fn insert<E: Effect, T: Time, S: Store>(
@@ -88,6 +71,6 @@ pub fn insert<E: Effect, T: Time, S: Store>(
     ensures inserted { fault_of (S.Store.meaning store.old) (insert_cost (height_at (S.Store.meaning store.old).cells root)) ≡ None → Inserted E.Effect T.Time (S.Store.meaning store.old) (S.Store.meaning store.new) root op result (insert_cost (height_at (S.Store.meaning store.old).cells root)) }
     ensures claimed { fault_of (S.Store.meaning store.old) 42 ≡ None → length (read_from E.Effect T.Time (S.Store.meaning store.old).cells root) ≤ 1023 → Inserted E.Effect T.Time (S.Store.meaning store.old) (S.Store.meaning store.new) root op result 42 }
 {
-    let side = insert_into(store, root, op)?;
+    let side = insert_from(store, root, op)?;
     Ok(side.number)
 }

@@ -1,8 +1,8 @@
 // Any stack of layers is a store: functions over every store, and two stacks that are opened and used through them.
 #![tactic(auto)]
 
-ghost use Rattle.std.specs.Prelude.{◌≡◌, ℕ, ◌+◌, ◌<◌, true, replicate, is_err, IfOk, None, Ok, vec_len};
-ghost use Rattle.store.specs.Meaning.{Meaning, fault_of, unless, claimed, put_answer, after_put, with_cells, got};
+ghost use Rattle.std.specs.Prelude.{◌≡◌, true, is_err, IfOk, vec_len};
+ghost use Rattle.store.specs.Meaning.{fault_of, unless, claimed, after_put};
 ghost use Rattle.bases.specs.Images.{image_bytes};
 ghost use Rattle.stacks.specs.Copies.{after_copies};
 ghost use Rattle.stacks.specs.Stacks.{image_stack, table_stack};
@@ -21,20 +21,8 @@ pub fn put_and_get<S: Store>(store: &mut S, cell: Cell) -> Result<Cell, Fault>
     ensures after { S.meaning store.new ≡ after_put (S.meaning store.old) cell }
     ensures untouched { is_err result ≡ true → S.buffer store.new ≡ S.buffer store.old }
 {
-    let number = put_found(store, cell)?;
+    let number = store.put(cell)?;
     store.get(number)
-}
-
-// Puts the cell. Where it is accepted, nothing was at fault, and the store has it under its number.
-fn put_found<S: Store>(store: &mut S, cell: Cell) -> Result<u32, Fault>
-    requires { S.sound store.old }
-    ensures stays { S.sound store.new }
-    ensures answer { result ≡ put_answer (S.meaning store.old) }
-    ensures after { S.meaning store.new ≡ after_put (S.meaning store.old) cell }
-    ensures untouched { is_err result ≡ true → S.buffer store.new ≡ S.buffer store.old }
-    ensures found { IfOk result (λ number. (fault_of (S.meaning store.old) 1 ≡ None) × (got (S.meaning store.new) number ≡ Ok cell)) }
-{
-    store.put(cell)
 }
 
 // Claims n cells, and then puts the cell n times: all of them or none.
@@ -47,18 +35,9 @@ pub fn put_copies<S: Store>(store: &mut S, cell: Cell, n: u32) -> Result<(), Fau
 {
     store.claim(n)?;
     for _i in 0..n {
-        put_granted(store, cell);
+        let _ = store.put(cell)?;
     }
     Ok(())
-}
-
-// Puts the cell once more. Where fewer copies of it than were granted are in the store, it is not refused.
-fn put_granted<S: Store>(store: &mut S, cell: Cell)
-    requires { S.sound store.old }
-    ensures stays { S.sound store.new }
-    ensures next { (m : Meaning) (n i : ℕ) → Ok tt ≡ claimed m n → i < n → S.meaning store.old ≡ with_cells m (replicate i cell) → S.meaning store.new ≡ with_cells m (replicate (i + 1) cell) }
-{
-    let _ = store.put(cell);
 }
 
 // Puts a cell into a cache over a quota over an image in the bytes, gets it again, and gives the bytes back.

@@ -1,20 +1,14 @@
 -- The tree that cells keep: what each cell of it says, and in which shape it stands.
-use Rattle.std.specs.Prelude.{◌≡◌, ℕ, ◌+◌, ◌<◌, ◌≤◌, max, List, [], ◌∷◌, ◌++◌, Some, None, Ok, Err, Option, Result}
+use Rattle.std.specs.Prelude.{◌≡◌, ℕ, ◌+◌, ◌<◌, ◌≤◌, max, List, [], ◌∷◌, ◌++◌, Some, None, Option}
 use Rattle.effects.specs.declared.Effect as effect
 use Rattle.times.specs.declared.Time as time
 use Rattle.reference.specs.declared.Operation.{Operation}
 use Rattle.reference.specs.Beliefs.{Belief}
 use Rattle.cells.specs.declared.Cell.{Cell}
-use Rattle.store.specs.declared.fault.Fault.{Fault}
 use Rattle.store.specs.Meaning.{cell_at}
 use Rattle.tree.specs.declared.Side.{Side}
 use Rattle.tree.specs.declared.Node.{Node}
 use Rattle.tree.specs.declared.Parts.{Parts}
-
--- the number of the side that is answered
-abbrev pub numbered : {E : Type 0} → Result (Side E) Fault → Result ℕ Fault
-numbered (Ok side) = Ok side.number
-numbered (Err fault) = Err fault
 
 -- A tree of operations, each with the number of its cell.
 pub data Tree (E T : Type 0) : Type 0 where
