@@ -94,6 +94,14 @@ def source_names(files):
     return sorted(found, key=lambda name: (-len(name), name))
 
 
+def same_names(names, words):
+    """Pairs of old names that would have one new name, and new names that a definition has already."""
+    olds = {}
+    for name, new in names.items():
+        olds.setdefault(new, []).append(name)
+    return [sorted(pair) for pair in olds.values() if len(pair) > 1] + [[new] for new in olds if new in words]
+
+
 def turned_code(text, turn):
     """A .rt file, with `turn` applied outside comments and strings."""
     parts = re.split(r"(//[^\n]*|b?\"(?:\\.|[^\"\\])*\")", text)
@@ -111,6 +119,12 @@ def main():
         if path.suffix in (".antt", ".rt"):
             words.update(re.findall(r"[A-Za-z][\w']*", path.read_text()))
     together = sorted(name for name in names if names[name] in words)
+    defined = set()
+    for path in files:
+        if path.suffix == ".antt":
+            defined.update(head.group(2) for head in map(HEAD.match, path.read_text().split("\n")) if head)
+    if same_names(names, defined):
+        sys.exit(f"these names would fall together: {same_names(names, defined)}")
     if "--list" in sys.argv:
         print("kept, since a library has the name:", kept)
         print("a word of the same new spelling stands already:", together)
