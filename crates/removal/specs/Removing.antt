@@ -1,5 +1,5 @@
 -- What a removal makes of any kept tree in order, and how many cells it takes.
-use Rattle.std.specs.Prelude.{◌≡◌, ℕ, ◌+◌, ◌*◌, ◌≤◌, max, ◌∷◌, ◌++◌, Some, None, Ok, Err, Option, Result, ◌≢◌}
+use Rattle.std.specs.Prelude.{◌≡◌, ℕ, ◌+◌, ◌*◌, ◌≤◌, max, ◌∷◌, ◌++◌, Some, Ok, Option, Result, ◌≢◌}
 use Rattle.effects.specs.declared.Effect as effect
 use Rattle.times.specs.declared.Time as time
 use Rattle.reference.specs.declared.Operation.{Operation}
@@ -17,12 +17,6 @@ use Rattle.removal.specs.declared.Taken.{Taken}
 -- the most cells that a removal from a tree of this height takes
 abbrev pub remove_cost : ℕ → ℕ
 remove_cost h = 3 * h
-
--- the number of the side that is answered, if one is
-abbrev pub rooted : {E : Type 0} → Result (Option (Side E)) Fault → Result (Option ℕ) Fault
-rooted (Ok (Some side)) = Ok (Some side.number)
-rooted (Ok None) = Ok None
-rooted (Err fault) = Err fault
 
 -- The new tree is as high as the old or 1 lower.
 abbrev pub Shrunk : {E T : Type 0} → ℕ → Tree E T → ℕ → Type 0

@@ -9,7 +9,7 @@ ghost use Rattle.tree.specs.Trees.{Held};
 ghost use Rattle.tree.specs.Reading.{read_from, height_at};
 ghost use Rattle.tree.specs.Making.{Unchanged, Grew};
 ghost use Rattle.questions.specs.Standing.{Standing};
-ghost use Rattle.removal.specs.Removing.{remove_cost, TakesFirst, Closes, TakesOut, Removed, rooted};
+ghost use Rattle.removal.specs.Removing.{remove_cost, TakesFirst, Closes, TakesOut, Removed};
 
 use balance::balanced;
 use effects::Effect;
@@ -26,14 +26,6 @@ struct Taken<E, T> {
     rest: Side<E>,
 }
 
-// Whether there is no tree on a side.
-fn is_absent<E>(side: &Side<E>) -> bool
-    ensures none { result ≡ true → side.now.number ≡ 0 }
-    ensures some { result ≡ false → 0 < side.now.number }
-{
-    side.number == 0
-}
-
 // Parts the first operation of a tree from the others.
 fn take_first<E: Effect, T: Time, S: Store>(store: &mut S, k: u32) -> Result<Taken<E, T>, Fault>
     requires sound { S.Store.sound store.old }
@@ -44,7 +36,7 @@ fn take_first<E: Effect, T: Time, S: Store>(store: &mut S, k: u32) -> Result<Tak
     ensures takes { TakesFirst E.Effect T.Time (S.Store.meaning store.old) (S.Store.meaning store.new) k result }
 {
     let Parts { left, op, right } = open::<E, T, S>(store, k)?;
-    if is_absent(&left) {
+    if left.number == 0 {
         return Ok(Taken {
             first: op,
             rest: right,
@@ -70,7 +62,7 @@ fn close<E: Effect, T: Time, S: Store>(
     ensures grew { Grew S.Store store.old store.new }
     ensures closes { Closes E.Effect T.Time (S.Store.meaning store.old) (S.Store.meaning store.new) left right result }
 {
-    if is_absent(&right) {
+    if right.number == 0 {
         return Ok(left);
     }
     let Taken { first, rest } = take_first::<E, T, S>(store, right.number)?;
@@ -108,35 +100,6 @@ fn take_out<E: Effect, T: Time, S: Store>(
     }
 }
 
-// Takes the operation of a number and a time out of a tree, where it is there, and answers what is known of the tree
-// that is left.
-fn take_found<E: Effect, T: Time, S: Store>(
-    store: &mut S,
-    root: u32,
-    number: u32,
-    time: T,
-) -> Result<Option<Side<E>>, Fault>
-    requires sound { S.Store.sound store.old }
-    requires stands { Standing E.Effect T.Time (S.Store.meaning store.old).cells root }
-    ensures stays { S.Store.sound store.new }
-    ensures grew { Grew S.Store store.old store.new }
-    ensures absent { has (kinds E.Effect T.Time) number time (read_from E.Effect T.Time (S.Store.meaning store.old).cells root) ≡ false → (rooted result ≡ Ok None) × Unchanged S.Store store.old store.new }
-    ensures removed { has (kinds E.Effect T.Time) number time (read_from E.Effect T.Time (S.Store.meaning store.old).cells root) ≡ true → fault_of (S.Store.meaning store.old) (remove_cost (height_at (S.Store.meaning store.old).cells root)) ≡ None → Removed E.Effect T.Time (S.Store.meaning store.old) (S.Store.meaning store.new) root number time (rooted result) (remove_cost (height_at (S.Store.meaning store.old).cells root)) }
-    ensures claimed { has (kinds E.Effect T.Time) number time (read_from E.Effect T.Time (S.Store.meaning store.old).cells root) ≡ true → fault_of (S.Store.meaning store.old) 42 ≡ None → length (read_from E.Effect T.Time (S.Store.meaning store.old).cells root) ≤ 1023 → Removed E.Effect T.Time (S.Store.meaning store.old) (S.Store.meaning store.new) root number time (rooted result) 42 }
-    ensures named { Timed number time (read_from E.Effect T.Time (S.Store.meaning store.old).cells root) → struck (kinds E.Effect T.Time) number time (read_from E.Effect T.Time (S.Store.meaning store.old).cells root) ≡ without number (read_from E.Effect T.Time (S.Store.meaning store.old).cells root) }
-{
-    if !find::<E, T, S>(store, root, number, time)? {
-        return Ok(None);
-    }
-    let sought: Operation<E, T> = Operation {
-        number,
-        time,
-        effect: E::no_change(),
-    };
-    let side = take_out(store, root, sought)?;
-    Ok(Some(side))
-}
-
 // Removes the operation of a number and a time and answers the new root, or `None` where it is not there: then nothing
 // has changed. With at most 1,023 operations in the tree a claim of 42 cells makes room for it. Where what has the number
 // has the time, the new root reads as the operations without that of the number. Where no cell is put, the buffer is as
@@ -156,8 +119,14 @@ pub fn remove<E: Effect, T: Time, S: Store>(
     ensures claimed { has (kinds E.Effect T.Time) number time (read_from E.Effect T.Time (S.Store.meaning store.old).cells root) ≡ true → fault_of (S.Store.meaning store.old) 42 ≡ None → length (read_from E.Effect T.Time (S.Store.meaning store.old).cells root) ≤ 1023 → Removed E.Effect T.Time (S.Store.meaning store.old) (S.Store.meaning store.new) root number time result 42 }
     ensures named { Timed number time (read_from E.Effect T.Time (S.Store.meaning store.old).cells root) → struck (kinds E.Effect T.Time) number time (read_from E.Effect T.Time (S.Store.meaning store.old).cells root) ≡ without number (read_from E.Effect T.Time (S.Store.meaning store.old).cells root) }
 {
-    match take_found::<E, T, S>(store, root, number, time)? {
-        Some(side) => Ok(Some(side.number)),
-        None => Ok(None),
+    if !find::<E, T, S>(store, root, number, time)? {
+        return Ok(None);
     }
+    let sought: Operation<E, T> = Operation {
+        number,
+        time,
+        effect: E::no_change(),
+    };
+    let side = take_out(store, root, sought)?;
+    Ok(Some(side.number))
 }

@@ -7,7 +7,7 @@ use Rattle.order.proofs.Stays.{struck_without}
 use Rattle.tree.specs.Reading.{read_from}
 use Rattle.tree.proofs.Makings.{grew_none, grew_after}
 use Rattle.removal.proofs.Exits.{found_there, not_there, removed, removed_42, not_refused, not_refused_42}
-use Rattle.removal.proofs.take_found.Goals as goal
+use Rattle.removal.proofs.remove.Goals as goal
 
 pub returns-in_err-side : goal.returns-in_err-side
 returns-in_err-side g c =
