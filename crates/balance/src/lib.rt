@@ -19,8 +19,6 @@ fn nest_right<E: Effect, T: Time, S: Store>(
     q: Operation<E, T>,
     c: Side<E>,
 ) -> Result<Side<E>, Fault>
-    requires { S.Store.sound store.old }
-    ensures stays { S.Store.sound store.new }
     ensures grew { Grew S.Store store.old store.new }
     ensures nests { NestsRight E.Effect T.Time (S.Store.meaning store.old) (S.Store.meaning store.new) a p b q c result }
 {
@@ -37,8 +35,6 @@ fn nest_left<E: Effect, T: Time, S: Store>(
     q: Operation<E, T>,
     c: Side<E>,
 ) -> Result<Side<E>, Fault>
-    requires { S.Store.sound store.old }
-    ensures stays { S.Store.sound store.new }
     ensures grew { Grew S.Store store.old store.new }
     ensures nests { NestsLeft E.Effect T.Time (S.Store.meaning store.old) (S.Store.meaning store.new) a p b q c result }
 {
@@ -55,8 +51,6 @@ fn part_middle<E: Effect, T: Time, S: Store>(
     q: Operation<E, T>,
     d: Side<E>,
 ) -> Result<Side<E>, Fault>
-    requires { S.Store.sound store.old }
-    ensures stays { S.Store.sound store.new }
     ensures grew { Grew S.Store store.old store.new }
     ensures parts { PartsMiddle E.Effect T.Time (S.Store.meaning store.old) (S.Store.meaning store.new) a p middle q d result }
 {
@@ -73,8 +67,6 @@ fn lean_left<E: Effect, T: Time, S: Store>(
     op: Operation<E, T>,
     right: Side<E>,
 ) -> Result<Side<E>, Fault>
-    requires { S.Store.sound store.old }
-    ensures stays { S.Store.sound store.new }
     ensures grew { Grew S.Store store.old store.new }
     ensures leans { LeansLeft E.Effect T.Time (S.Store.meaning store.old) (S.Store.meaning store.new) left op right result }
 {
@@ -93,8 +85,6 @@ fn lean_right<E: Effect, T: Time, S: Store>(
     op: Operation<E, T>,
     right: Side<E>,
 ) -> Result<Side<E>, Fault>
-    requires { S.Store.sound store.old }
-    ensures stays { S.Store.sound store.new }
     ensures grew { Grew S.Store store.old store.new }
     ensures leans { LeansRight E.Effect T.Time (S.Store.meaning store.old) (S.Store.meaning store.new) left op right result }
 {
@@ -113,8 +103,6 @@ pub fn balanced<E: Effect, T: Time, S: Store>(
     op: Operation<E, T>,
     right: Side<E>,
 ) -> Result<Side<E>, Fault>
-    requires { S.Store.sound store.old }
-    ensures stays { S.Store.sound store.new }
     ensures grew { Grew S.Store store.old store.new }
     ensures near { Joins E.Effect T.Time (S.Store.meaning store.old) (S.Store.meaning store.new) left op right result }
     ensures higher { LeansLeft E.Effect T.Time (S.Store.meaning store.old) (S.Store.meaning store.new) left op right result }

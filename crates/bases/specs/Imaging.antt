@@ -12,7 +12,8 @@ use Rattle.store.specs.Meaning.{fault_of, after_put, put_answer, cell_at}
 use Rattle.store.specs.declared.fault.Fault.{Fault}
 use Rattle.store.proofs.Granting.{answer_free}
 use Rattle.bases.specs.Bases.{base}
-use Rattle.bases.specs.Images.{cells_in, image_bytes, written_unless, put_bytes}
+use Rattle.bases.specs.Layouts.{cells_in, image_bytes}
+use Rattle.bases.specs.Images.{written_unless, put_bytes}
 use Rattle.bases.specs.Basing.{base_put}
 
 pub length_cells_in : (n : ℕ) (bytes : List ℕ) → length (cells_in n bytes) ≡ n
@@ -122,7 +123,8 @@ module _ (n capacity : ℕ) (bytes now : List ℕ) (c : Cell)
       ∙ laid_more (cells_in n bytes) bytes handed c laid
       ∙ ap (λ (cells : List Cell). image_bytes cells handed) (sym cells_put)
 
-  pub sound_put : bytes ≡ image_bytes (cells_in n bytes) bytes → now ≡ image_bytes (cells_in (n + 1) now) now
-  sound_put laid =
+  -- and still lay out the cells, one more
+  pub stays_laid : bytes ≡ image_bytes (cells_in n bytes) bytes → now ≡ image_bytes (cells_in (n + 1) now) now
+  stays_laid laid =
       let after = laid_put bytes laid in
       after ∙ ap (λ (rest : List ℕ). flat_map layout (cells_in (n + 1) now) ++ rest) (sym (rest_laid (cells_in (n + 1) now) now bytes after))

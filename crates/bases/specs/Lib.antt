@@ -1,4 +1,5 @@
 pub mod Bases
+pub mod Layouts
 pub mod Images
 pub mod Tables
 pub mod Imaging

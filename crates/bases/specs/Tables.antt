@@ -4,10 +4,6 @@ use Rattle.store.specs.Meaning.{Meaning}
 use Rattle.bases.specs.Bases.{base}
 use Rattle.bases.specs.declared.table.Table.{Table}
 
--- its ghost fields say all that its calls keep
-abbrev pub table_sound : Table → Type 0
-table_sound t = Unit {0}
-
 abbrev pub table_meaning : Table → Meaning
 table_meaning t = base (vec_items t.cells) t.capacity
 

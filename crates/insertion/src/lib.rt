@@ -24,9 +24,7 @@ fn insert_from<E: Effect, T: Time, S: Store>(
     k: u32,
     op: Operation<E, T>,
 ) -> Result<Side<E>, Fault>
-    requires sound { S.Store.sound store.old }
     requires held { Held E.Effect T.Time (S.Store.meaning store.old).cells k }
-    ensures stays { S.Store.sound store.new }
     ensures grew { Grew S.Store store.old store.new }
     ensures inserts { Inserts E.Effect T.Time (S.Store.meaning store.old) (S.Store.meaning store.new) k op result }
 {
@@ -63,10 +61,8 @@ pub fn insert<E: Effect, T: Time, S: Store>(
     root: u32,
     op: Operation<E, T>,
 ) -> Result<u32, Fault>
-    requires sound { S.Store.sound store.old }
     requires stands { Standing E.Effect T.Time (S.Store.meaning store.old).cells root }
     requires newest { Below op.number (read_from E.Effect T.Time (S.Store.meaning store.old).cells root) }
-    ensures stays { S.Store.sound store.new }
     ensures grew { Grew S.Store store.old store.new }
     ensures inserted { fault_of (S.Store.meaning store.old) (insert_cost (height_at (S.Store.meaning store.old).cells root)) ≡ None → Inserted E.Effect T.Time (S.Store.meaning store.old) (S.Store.meaning store.new) root op result (insert_cost (height_at (S.Store.meaning store.old).cells root)) }
     ensures claimed { fault_of (S.Store.meaning store.old) 42 ≡ None → length (read_from E.Effect T.Time (S.Store.meaning store.old).cells root) ≤ 1023 → Inserted E.Effect T.Time (S.Store.meaning store.old) (S.Store.meaning store.new) root op result 42 }

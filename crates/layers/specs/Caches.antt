@@ -3,7 +3,7 @@ use Rattle.std.specs.Prelude.{ℕ, List, Some, None, Option}
 use Rattle.cells.specs.declared.Cell.{Cell}
 use Rattle.store.specs.Meaning.{Meaning, cell_at}
 use Rattle.store.specs.declared.Store.{Ghosts}
-use Rattle.layers.specs.Lines.{Faithful, held, with_line}
+use Rattle.layers.specs.Lines.{held, with_line}
 use Rattle.layers.specs.declared.cache.Cache.{Cache}
 use Rattle.layers.specs.declared.lines.Line.{Line}
 
@@ -14,15 +14,11 @@ lines_by None None table k = table
 lines_by (Some held) there table k = table
 
 module _ {S : Type 0} (below : Ghosts S) where
-  -- the store below is sound, and each line has its cell as that store has it
-  abbrev pub cache_sound : Cache S → Type 0
-  cache_sound c = below.sound c.below × Faithful (below.meaning c.below).cells c.lines.table
-
-  abbrev pub cache_meaning : Cache S → Meaning
+  abbrev pub cache_meaning : Cache S below → Meaning
   cache_meaning c = below.meaning c.below
 
-  abbrev pub cache_buffer : Cache S → List ℕ
+  abbrev pub cache_buffer : Cache S below → List ℕ
   cache_buffer c = below.buffer c.below
 
-  abbrev pub lines_after_get : Cache S → ℕ → List Line
+  abbrev pub lines_after_get : Cache S below → ℕ → List Line
   lines_after_get c k = lines_by (held c.lines.table k) (cell_at (below.meaning c.below).cells k) c.lines.table k

@@ -9,9 +9,6 @@ abbrev pub limited : Meaning → ℕ → Meaning
 limited m left = record { cells = m.cells; allowance = min left m.allowance; space = m.space }
 
 module _ {S : Type 0} (below : Ghosts S) where
-  abbrev pub quota_sound : Quota S → Type 0
-  quota_sound q = below.sound q.below
-
   abbrev pub quota_meaning : Quota S → Meaning
   quota_meaning q = limited (below.meaning q.below) q.left
 

@@ -1,26 +1,26 @@
 // A cache: has some cells of the store below at hand.
 ghost use Rattle.std.specs.Prelude.{◌≡◌, true, is_some, is_err};
 ghost use Rattle.store.specs.Meaning.{put_answer, after_put, got};
-ghost use Rattle.layers.specs.Caches.{cache_sound, cache_meaning, cache_buffer, lines_after_get};
-ghost use Rattle.layers.specs.Lines.{no_lines, held};
+ghost use Rattle.layers.specs.Lines.{Faithful, no_lines, held};
 ghost use Rattle.std.proofs.Common.{rules};
 
 use crate::lines::Lines;
 use cells::Cell;
 use store::{Fault, Store};
 
-// A store, and the lines that hold some of its cells.
+// A store, and the lines that hold some of its cells: each line has its cell as the store below has it.
 #[derive(Drop)]
 pub struct Cache<S: Store> {
     below: S,
     lines: Lines,
+    ghost faithful: { Faithful (S.Store.meaning below).cells lines.table },
 }
 
 impl<S: Store> Cache<S> {
+    ghost use Rattle.layers.specs.Caches.{cache_meaning, cache_buffer};
+
     // A cache over a store, with every line empty.
     pub fn open(below: S) -> Cache<S>
-        requires { S.Store.sound below }
-        ensures sound { cache_sound S.Store result }
         ensures meaning { cache_meaning S.Store result ≡ S.Store.meaning below }
         ensures buffer { cache_buffer S.Store result ≡ S.Store.buffer below }
         ensures below { result.below ≡ below }
@@ -42,7 +42,7 @@ impl<S: Store> Cache<S> {
 }
 
 impl<S: Store> Store for Cache<S> {
-    ghost sound = { cache_sound S.Store };
+    ghost use Rattle.layers.specs.Caches.{cache_meaning, cache_buffer, lines_after_get};
 
     ghost meaning = { cache_meaning S.Store };
 
@@ -59,8 +59,6 @@ impl<S: Store> Store for Cache<S> {
     }
 
     fn put(&mut self, cell: Cell) -> Result<u32, Fault>
-        requires { cache_sound S.Store self.old }
-        ensures stays { cache_sound S.Store self.new }
         ensures answer { result ≡ put_answer (cache_meaning S.Store self.old) }
         ensures after { cache_meaning S.Store self.new ≡ after_put (cache_meaning S.Store self.old) cell }
         ensures untouched { is_err result ≡ true → cache_buffer S.Store self.new ≡ cache_buffer S.Store self.old }
@@ -70,8 +68,6 @@ impl<S: Store> Store for Cache<S> {
     }
 
     fn get(&mut self, k: u32) -> Result<Cell, Fault>
-        requires { cache_sound S.Store self.old }
-        ensures stays { cache_sound S.Store self.new }
         ensures answer { result ≡ got (cache_meaning S.Store self.old) k }
         ensures same { cache_meaning S.Store self.new ≡ cache_meaning S.Store self.old }
         ensures untouched { cache_buffer S.Store self.new ≡ cache_buffer S.Store self.old }

@@ -1,7 +1,7 @@
 // A quota: lets no more than a number of cells into the store below.
 ghost use Rattle.std.specs.Prelude.{◌≡◌, ◌-◌, true, is_ok, is_err, if◌then◌else◌};
 ghost use Rattle.store.specs.Meaning.{put_answer, after_put, put_unless, fault_of, got};
-ghost use Rattle.layers.specs.Quotas.{quota_sound, quota_meaning, quota_buffer, limited};
+ghost use Rattle.layers.specs.Quotas.{quota_meaning, quota_buffer, limited};
 ghost use Rattle.std.proofs.Common.{rules};
 
 use cells::Cell;
@@ -17,8 +17,6 @@ pub struct Quota<S: Store> {
 impl<S: Store> Quota<S> {
     // A quota of so many cells over a store.
     pub fn open(below: S, number: u32) -> Quota<S>
-        requires { S.Store.sound below }
-        ensures sound { quota_sound S.Store result }
         ensures meaning { quota_meaning S.Store result ≡ limited (S.Store.meaning below) number }
         ensures buffer { quota_buffer S.Store result ≡ S.Store.buffer below }
         ensures below { result.below ≡ below }
@@ -40,8 +38,6 @@ impl<S: Store> Quota<S> {
 }
 
 impl<S: Store> Store for Quota<S> {
-    ghost sound = { quota_sound S.Store };
-
     ghost meaning = { quota_meaning S.Store };
 
     ghost buffer = { quota_buffer S.Store };
@@ -62,8 +58,6 @@ impl<S: Store> Store for Quota<S> {
     }
 
     fn put(&mut self, cell: Cell) -> Result<u32, Fault>
-        requires { quota_sound S.Store self.old }
-        ensures stays { quota_sound S.Store self.new }
         ensures answer { result ≡ put_answer (quota_meaning S.Store self.old) }
         ensures after { quota_meaning S.Store self.new ≡ after_put (quota_meaning S.Store self.old) cell }
         ensures untouched { is_err result ≡ true → quota_buffer S.Store self.new ≡ quota_buffer S.Store self.old }
@@ -79,8 +73,6 @@ impl<S: Store> Store for Quota<S> {
     }
 
     fn get(&mut self, k: u32) -> Result<Cell, Fault>
-        requires { quota_sound S.Store self.old }
-        ensures stays { quota_sound S.Store self.new }
         ensures answer { result ≡ got (quota_meaning S.Store self.old) k }
         ensures same { quota_meaning S.Store self.new ≡ quota_meaning S.Store self.old }
         ensures untouched { quota_buffer S.Store self.new ≡ quota_buffer S.Store self.old }

@@ -20,7 +20,6 @@ module _ {E St T S : Type 0} (e : effect.Ghosts E St) (t : time.Ghosts T) (s : s
 
   pub stands_over : (read : S) → Stands e t s l → Unchanged s l.store read → Stands e t s (over read)
   stands_over read h same = record {
-    sound = same.sound;
     rows = h.rows;
     latest = h.latest;
     each = λ b d inside. subst (λ m. RowStands e t m.cells l.rows b (get_or l.rows b d)) (sym same.meaning) (h.each b d inside);

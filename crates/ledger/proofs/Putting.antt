@@ -29,7 +29,6 @@ module _ {E St T S : Type 0} (e : effect.Ghosts E St) (t : time.Ghosts T) (s : s
   module _ (l : Ledger E T S) (row : Row T) (h : Stands e t s l) (room : l.latest < 1023) where
     pub stands_row : Next e t s l row.root row.entered → row.count ≡ count (read_from e t (s.meaning l.store).cells row.root) → Stands e t s (with_row l row)
     stands_row next counts = record {
-      sound = h.sound;
       rows = length-set l.rows (l.latest + 1) row ∙ h.rows;
       latest = omega arith;
       each = each_more e t (s.meaning l.store).cells l.rows l.latest row (omega (arith, h.rows)) h.each (next.stands row refl refl counts);
@@ -45,7 +44,6 @@ module _ {E St T S : Type 0} (e : effect.Ghosts E St) (t : time.Ghosts T) (s : s
 
     pub stands_put : s.sound n → Stands e t s (over e t s l n)
     stands_put sound = record {
-      sound = sound;
       rows = h.rows;
       latest = h.latest;
       each = λ b d inside. subst (λ c. RowStands e t c l.rows b (get_or l.rows b d)) (sym grown) (row_with_cells e t effects_back times_back (s.meaning l.store).cells new l.rows b (get_or l.rows b d) (h.each b d inside));

@@ -39,7 +39,6 @@ module _ {E St T : Type 0} (e : effect.Ghosts E St) (t : time.Ghosts T) where
 
     -- The ledger was opened, and has since had only its own calls.
     pub record Stands (l : Ledger E T S) : Type 0 where
-      pub sound : s.sound l.store
       pub rows : length l.rows ≡ 1024
       pub latest : l.latest < 1024
       pub each : (b : ℕ) (d : Row T) → b ≤ l.latest → RowStands (s.meaning l.store).cells l.rows b (slice_index_or l.rows b d)

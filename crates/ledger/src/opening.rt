@@ -12,7 +12,6 @@ use times::Time;
 impl<E: Effect, T: Time, S: Store> Ledger<E, T, S> {
     // A ledger over a store, with belief 0 alone. The store may have cells.
     pub fn open(store: S) -> Self
-        requires { S.Store.sound store }
         ensures shown { shown E.Effect T.Time S.Store result ≡ opened (S.Store.meaning store) }
         ensures stands { Stands E.Effect T.Time S.Store result }
         ensures store { result.store ≡ store }
@@ -32,7 +31,6 @@ impl<E: Effect, T: Time, S: Store> Ledger<E, T, S> {
     // The store, with all its cells.
     pub fn close(self) -> S
         requires { Stands E.Effect T.Time S.Store self }
-        ensures sound { S.Store.sound result }
         ensures meaning { S.Store.meaning result ≡ (shown E.Effect T.Time S.Store self).store }
         ensures store { result ≡ self.store }
     {

@@ -74,7 +74,6 @@ fn run_into<E: Effect, T: Time, S: Store>(
     calls: &[Call<E, T>],
     mut answers: Vec<Result<Answer<E::State, T>, Refusal>>,
 ) -> (Ledger<E, T, S>, Vec<Result<Answer<E::State, T>, Refusal>>)
-    requires sound { S.Store.sound store }
     requires empty { (answers.items ≡ []) × (vec_len answers ≡ 0) }
     requires room { length calls.now ≤ vec_capacity answers }
     ensures promise { Promise (kinds E.Effect T.Time) (S.Store.meaning store) calls.now result.1.items (shown E.Effect T.Time S.Store result.0) }
@@ -95,7 +94,6 @@ pub fn run<E: Effect, T: Time, S: Store + Drop>(
     store: S,
     calls: &[Call<E, T>],
 ) -> Result<(Ledger<E, T, S>, Vec<Result<Answer<E::State, T>, Refusal>>), AllocError>
-    requires { S.Store.sound store }
     ensures promise { IfOk result (λ x. Promise (kinds E.Effect T.Time) (S.Store.meaning store) calls.now x.1.items (shown E.Effect T.Time S.Store x.0)) }
     ensures throughout { IfOk result (λ x. Throughout (kinds E.Effect T.Time) (S.Store.meaning store) calls.now x.1.items (shown E.Effect T.Time S.Store x.0)) }
     ensures seconds { IfOk result (λ x. Seconds (kinds E.Effect T.Time) (S.Store.meaning store) calls.now x.1.items (shown E.Effect T.Time S.Store x.0)) }

@@ -15,8 +15,6 @@ use store::{Fault, Store};
 
 // Puts the cell, and gets it again by the number that it was given.
 pub fn put_and_get<S: Store>(store: &mut S, cell: Cell) -> Result<Cell, Fault>
-    requires { S.sound store.old }
-    ensures stays { S.sound store.new }
     ensures answer { result ≡ unless (fault_of (S.meaning store.old) 1) cell }
     ensures after { S.meaning store.new ≡ after_put (S.meaning store.old) cell }
     ensures untouched { is_err result ≡ true → S.buffer store.new ≡ S.buffer store.old }
@@ -27,8 +25,6 @@ pub fn put_and_get<S: Store>(store: &mut S, cell: Cell) -> Result<Cell, Fault>
 
 // Claims n cells, and then puts the cell n times: all of them or none.
 pub fn put_copies<S: Store>(store: &mut S, cell: Cell, n: u32) -> Result<(), Fault>
-    requires { S.sound store.old }
-    ensures stays { S.sound store.new }
     ensures answer { result ≡ claimed (S.meaning store.old) n }
     ensures after { S.meaning store.new ≡ after_copies (S.meaning store.old) cell n }
     ensures untouched { is_err result ≡ true → S.buffer store.new ≡ S.buffer store.old }

@@ -9,12 +9,9 @@ pub mod fault;
 use cells::Cell;
 pub use fault::Fault;
 
-// A list of cells that grows at its end. A store function requires no more than that the store was opened and has
-// since had only its own calls, which is what `sound` says: every opening ensures it and every call keeps it.
+// A list of cells that grows at its end. What is true of a store since it was opened is an invariant of its type, so
+// that no call requires anything.
 pub trait Store {
-    // the store was opened, and has since had only its own calls
-    ghost sound: { Self → Type 0 };
-
     // its cells, and how many more it may and can take
     ghost meaning: { Self → Meaning };
 
@@ -23,26 +20,20 @@ pub trait Store {
 
     // The number of cells.
     fn len(&self) -> u32
-        requires { sound self.now }
         ensures { result ≡ length (meaning self.now).cells };
 
     // Whether n more cells may be put and find room.
     fn claim(&self, n: u32) -> Result<(), Fault>
-        requires { sound self.now }
         ensures { result ≡ claimed (meaning self.now) n };
 
     // Appends the cell and answers its number.
     fn put(&mut self, cell: Cell) -> Result<u32, Fault>
-        requires { sound self.old }
-        ensures stays { sound self.new }
         ensures answer { result ≡ put_answer (meaning self.old) }
         ensures after { meaning self.new ≡ after_put (meaning self.old) cell }
         ensures untouched { is_err result ≡ true → buffer self.new ≡ buffer self.old };
 
     // The k-th cell, counted from 1.
     fn get(&mut self, k: u32) -> Result<Cell, Fault>
-        requires { sound self.old }
-        ensures stays { sound self.new }
         ensures answer { result ≡ got (meaning self.old) k }
         ensures same { meaning self.new ≡ meaning self.old }
         ensures untouched { buffer self.new ≡ buffer self.old };

@@ -21,7 +21,7 @@ level_small (node k l o r) = omega arith
 
 -- one reading after another
 pub unchanged_then : {S : Type 0} (s : store.Ghosts S) (a b c : S) → Unchanged s a b → Unchanged s b c → Unchanged s a c
-unchanged_then s a b c one two = record { sound = two.sound; meaning = two.meaning ∙ one.meaning; buffer = two.buffer ∙ one.buffer }
+unchanged_then s a b c one two = record { meaning = two.meaning ∙ one.meaning; buffer = two.buffer ∙ one.buffer }
 
 -- no call, one that only read, and one after another
 pub grew_still : {S : Type 0} (s : store.Ghosts S) (a : S) → Grew s a a

@@ -13,9 +13,8 @@ use Rattle.tree.specs.declared.Node.{Node}
 use Rattle.tree.specs.declared.Parts.{Parts}
 use Rattle.tree.specs.Trees.{Tree, leaf, node, height, operations, side, node_of, parts_of, Kept}
 
--- A store that was only read: sound, with the meaning and the buffer that it had.
+-- A store that was only read: it has the meaning and the buffer that it had.
 pub record Unchanged {S : Type 0} (s : store.Ghosts S) (before after : S) : Type 0 where
-  pub sound : s.sound after
   pub meaning : s.meaning after ≡ s.meaning before
   pub buffer : s.buffer after ≡ s.buffer before
 

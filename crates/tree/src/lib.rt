@@ -74,7 +74,6 @@ fn decode<E: Effect, T: Time>(cell: Cell) -> Option<Node<E, T>>
 
 // The node of a cell, by one get.
 pub fn read<E: Effect, T: Time, S: Store>(store: &mut S, k: u32) -> Result<Node<E, T>, Fault>
-    requires { S.Store.sound store.old }
     ensures same { Unchanged S.Store store.old store.new }
     ensures node { Reads E.Effect T.Time (S.Store.meaning store.old) k result }
 {
@@ -84,7 +83,6 @@ pub fn read<E: Effect, T: Time, S: Store>(store: &mut S, k: u32) -> Result<Node<
 
 // What is known of the tree at a root, by one get or, where there is no tree, by none.
 pub fn side_at<E: Effect, T: Time, S: Store>(store: &mut S, k: u32) -> Result<Side<E>, Fault>
-    requires { S.Store.sound store.old }
     ensures same { Unchanged S.Store store.old store.new }
     ensures side { (s : Tree E T) → root s ≡ k → Kept E.Effect T.Time (S.Store.meaning store.old).cells s → result ≡ Ok (side E.Effect T.Time s) }
 {
@@ -105,7 +103,6 @@ pub fn side_at<E: Effect, T: Time, S: Store>(store: &mut S, k: u32) -> Result<Si
 
 // A root with its two sides, by at most three gets.
 pub fn open<E: Effect, T: Time, S: Store>(store: &mut S, k: u32) -> Result<Parts<E, T>, Fault>
-    requires { S.Store.sound store.old }
     ensures same { Unchanged S.Store store.old store.new }
     ensures parts { Opens E.Effect T.Time (S.Store.meaning store.old) k result }
 {
@@ -135,10 +132,8 @@ fn put_over<E: Effect, T: Time, S: Store>(
     height: u32,
     total: E,
 ) -> Result<Side<E>, Fault>
-    requires sound { S.Store.sound store.old }
     requires over { max left.height right.height < 4294967295 → height ≡ max left.height right.height + 1 }
     requires composed { total ≡ joined E.Effect.composed left.total op.effect right.total }
-    ensures stays { S.Store.sound store.new }
     ensures grew { Grew S.Store store.old store.new }
     ensures joined { Joins E.Effect T.Time (S.Store.meaning store.old) (S.Store.meaning store.new) left op right result }
 {
@@ -166,8 +161,6 @@ pub fn join<E: Effect, T: Time, S: Store>(
     op: Operation<E, T>,
     right: Side<E>,
 ) -> Result<Side<E>, Fault>
-    requires { S.Store.sound store.old }
-    ensures stays { S.Store.sound store.new }
     ensures grew { Grew S.Store store.old store.new }
     ensures joined { Joins E.Effect T.Time (S.Store.meaning store.old) (S.Store.meaning store.new) left op right result }
 {

@@ -7,7 +7,6 @@ returns-in_err-high g c =
     let a = c.args in
     let mean = g.S.Store.meaning in
     record {
-      stays = c.join-2.ensures.stays;
       grew = grew_then g.S.Store a.store.now c.join.new.store c.join-2.new.store (grew_after g.S.Store a.store.now c.open.new.store c.join.new.store c.open.ensures.same c.join.ensures.grew) c.join-2.ensures.grew;
       parts = parted_stop g.E.Effect g.T.Time (mean a.store.now) (mean c.open.new.store) (mean c.join.new.store) (mean c.join-2.new.store)
           a.a a.d c.in_ok-low.low a.middle a.p a.q c.in_ok-left.field-0 c.from_residual-in_err-high.result c.in_err-high.field-0.0
@@ -19,7 +18,6 @@ returns g c =
     let a = c.args in
     let mean = g.S.Store.meaning in
     record {
-      stays = c.join-3.ensures.stays;
       grew = grew_then g.S.Store a.store.now c.join-2.new.store c.join-3.new.store (grew_then g.S.Store a.store.now c.join.new.store c.join-2.new.store (grew_after g.S.Store a.store.now c.open.new.store c.join.new.store c.open.ensures.same c.join.ensures.grew) c.join-2.ensures.grew) c.join-3.ensures.grew;
       parts = parted g.E.Effect g.T.Time (mean a.store.now) (mean c.open.new.store) (mean c.join.new.store) (mean c.join-2.new.store) (mean c.join-3.new.store)
           a.a a.d c.in_ok-low.low c.in_ok-high.high a.middle a.p a.q c.in_ok-left.field-0 c.join-3.result

@@ -4,7 +4,8 @@ ghost use Rattle.big_endian.specs.Numbers.{overwritten};
 ghost use Rattle.cells.specs.Layout.{cell_width, cell_of, layout};
 ghost use Rattle.store.specs.Meaning.{put_answer, after_put, got};
 ghost use Rattle.bases.specs.Bases.{base, most_cells};
-ghost use Rattle.bases.specs.Images.{image_sound, image_meaning, image_buffer, image_bytes, Laid, put_bytes};
+ghost use Rattle.bases.specs.Images.{image_meaning, image_buffer, Laid, put_bytes};
+ghost use Rattle.bases.specs.Layouts.{image_bytes};
 ghost use Rattle.std.proofs.Common.{arith};
 ghost use Rattle.bases.specs.Imaging.{length_cells_in};
 
@@ -18,7 +19,6 @@ use store::{Fault, Store};
 impl Image {
     // An empty image in the bytes, for the whole cells that fit, at most `MOST_CELLS`.
     pub fn open(bytes: Vec<u8>) -> Image
-        ensures sound { image_sound result }
         ensures meaning { image_meaning result ≡ base [] (min (vec_len bytes / cell_width) most_cells) }
         ensures buffer { image_buffer result ≡ bytes.items }
         ensures laid { Laid bytes.items result }
@@ -46,8 +46,6 @@ impl Image {
 }
 
 impl Store for Image {
-    ghost sound = { image_sound };
-
     ghost meaning = { image_meaning };
 
     ghost buffer = { image_buffer };
@@ -63,8 +61,6 @@ impl Store for Image {
     }
 
     fn put(&mut self, cell: Cell) -> Result<u32, Fault>
-        requires { image_sound self.old }
-        ensures stays { image_sound self.new }
         ensures answer { result ≡ put_answer (image_meaning self.old) }
         ensures after { image_meaning self.new ≡ after_put (image_meaning self.old) cell }
         ensures untouched { is_err result ≡ true → image_buffer self.new ≡ image_buffer self.old }
@@ -78,8 +74,6 @@ impl Store for Image {
     }
 
     fn get(&mut self, k: u32) -> Result<Cell, Fault>
-        requires { image_sound self.old }
-        ensures stays { image_sound self.new }
         ensures answer { result ≡ got (image_meaning self.old) k }
         ensures same { image_meaning self.new ≡ image_meaning self.old }
         ensures untouched { image_buffer self.new ≡ image_buffer self.old }

@@ -1,7 +1,7 @@
 // The calls of a table.
 ghost use Rattle.std.specs.Prelude.{◌≡◌, min, [], IfOk};
 ghost use Rattle.bases.specs.Bases.{base, most_cells};
-ghost use Rattle.bases.specs.Tables.{table_sound, table_meaning, table_buffer};
+ghost use Rattle.bases.specs.Tables.{table_meaning, table_buffer};
 ghost use Rattle.std.proofs.Common.{rules, arith};
 
 use super::Table;
@@ -14,7 +14,6 @@ use store::{Fault, Store};
 impl Table {
     // An empty table for so many cells, at most `MOST_CELLS`.
     pub fn open(heap: Global, capacity: u32) -> Result<Table, AllocError>
-        ensures sound { IfOk result (λ t. table_sound t) }
         ensures meaning { IfOk result (λ t. table_meaning t ≡ base [] (min capacity most_cells)) }
         ensures buffer { IfOk result (λ t. table_buffer t ≡ []) }
     {
@@ -25,8 +24,6 @@ impl Table {
 }
 
 impl Store for Table {
-    ghost sound = { table_sound };
-
     ghost meaning = { table_meaning };
 
     ghost buffer = { table_buffer };

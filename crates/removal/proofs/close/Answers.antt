@@ -7,7 +7,6 @@ pub returns-then-right-eq0 : goal.returns-then-right-eq0
 returns-then-right-eq0 g c =
     let a = c.args in
     record {
-      stays = c.requires.sound;
       grew = grew_still g.S.Store a.store.now;
       closes = close_none g.E.Effect g.T.Time (g.S.Store.meaning a.store.now) a.left a.right c.if-right-eq0.true;
     }
@@ -17,7 +16,6 @@ returns g c =
     let a = c.args in
     let mean = g.S.Store.meaning in
     record {
-      stays = c.balanced.ensures.stays;
       grew = grew_then g.S.Store a.store.now c.take_first.new.store c.balanced.new.store c.take_first.ensures.grew c.balanced.ensures.grew;
       closes = close_on g.E.Effect g.T.Time (mean a.store.now) (mean c.take_first.new.store) (mean c.balanced.new.store) a.left a.right c.in_ok-first.field-0 c.balanced.result
           c.if-right-eq0.false c.in_ok-first.ensures.takes c.balanced.ensures.near c.balanced.ensures.higher;

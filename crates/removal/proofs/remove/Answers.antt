@@ -15,7 +15,6 @@ returns-in_err-side g c =
     let mean = g.S.Store.meaning in
     let laws : TimeLaws g.T.Time.upto = record { total = g.met.T.Time.total; transitive = g.met.T.Time.transitive } in
     record {
-      stays = c.take_out.ensures.stays;
       grew = grew_after g.S.Store a.store.now c.find.new.store c.take_out.new.store c.find.ensures.same c.take_out.ensures.grew;
       absent = found_there c.in_ok-find.field-0 (has (kinds g.E.Effect g.T.Time) a.number a.time (read_from g.E.Effect g.T.Time (mean a.store.now).cells a.root)) c.if-not-branch.false c.in_ok-find.ensures.found;
       removed = λ _. not_refused g.E.Effect g.T.Time g.met.E.Effect.back g.met.T.Time.back laws (mean a.store.now) (mean c.find.new.store) (mean c.take_out.new.store) a.root (record { number = a.number; time = a.time; effect = c.no_change.result }) c.find.ensures.same.meaning c.requires.stands c.in_err-side.field-0.0 c.in_err-side.ensures.takes;
@@ -29,7 +28,6 @@ returns g c =
     let mean = g.S.Store.meaning in
     let laws : TimeLaws g.T.Time.upto = record { total = g.met.T.Time.total; transitive = g.met.T.Time.transitive } in
     record {
-      stays = c.take_out.ensures.stays;
       grew = grew_after g.S.Store a.store.now c.find.new.store c.take_out.new.store c.find.ensures.same c.take_out.ensures.grew;
       absent = found_there c.in_ok-find.field-0 (has (kinds g.E.Effect g.T.Time) a.number a.time (read_from g.E.Effect g.T.Time (mean a.store.now).cells a.root)) c.if-not-branch.false c.in_ok-find.ensures.found;
       removed = λ _. removed g.E.Effect g.T.Time g.met.E.Effect.back g.met.T.Time.back laws (mean a.store.now) (mean c.find.new.store) (mean c.take_out.new.store) a.root (record { number = a.number; time = a.time; effect = c.no_change.result }) c.find.ensures.same.meaning c.requires.stands c.in_ok-side.side c.in_ok-side.ensures.takes;
@@ -44,7 +42,6 @@ returns-then-not-branch g c =
     let there = has (kinds g.E.Effect g.T.Time) a.number a.time belief in
     let laws : TimeLaws g.T.Time.upto = record { total = g.met.T.Time.total; transitive = g.met.T.Time.transitive } in
     record {
-      stays = c.find.ensures.same.sound;
       grew = grew_none g.S.Store a.store.now c.find.new.store c.find.ensures.same;
       absent = λ _. (refl, c.find.ensures.same);
       removed = not_there c.in_ok-find.field-0 there c.if-not-branch.true c.in_ok-find.ensures.found;

@@ -12,7 +12,6 @@ returns g c =
     let put = c.in_ok-number.ensures in
     let again = got_again was after cell number c.get.result put.answer put.after c.get.ensures.answer in
     record {
-      stays = c.get.ensures.stays;
       answer = accepted_again was cell number c.get.result put.answer again;
       after = search rules;
       untouched = ok_no_error c.get.result cell again;

@@ -8,7 +8,6 @@ use Rattle.tree.proofs.put_over.Goals as goal
 pub returns-in_err-number : goal.returns-in_err-number
 returns-in_err-number g c =
     record {
-      stays = c.put.ensures.stays;
       grew = search rules;
       joined = λ l r s room.
           let none = accepted (g.S.Store.meaning c.args.store.now) 1 room in
@@ -18,7 +17,6 @@ returns-in_err-number g c =
 pub returns : goal.returns
 returns g c =
     record {
-      stays = c.put.ensures.stays;
       grew = grew_put g.S.Store c.args.store.now c.put.new.self _ c.in_ok-number.number c.in_ok-number.ensures.answer c.put.ensures.after;
       joined = λ l r s room.
           let m = g.S.Store.meaning c.args.store.now in

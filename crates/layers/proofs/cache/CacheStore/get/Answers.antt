@@ -1,24 +1,21 @@
 -- A cell that the lines hold is there; one that was got from below is there too, and its line holds it then.
 use Rattle.std.proofs.Common.{◌∙◌, rules}
 use Rattle.store.proofs.Finding.{got_there}
-use Rattle.layers.proofs.Caching.{faithful_fill, miss_fills, hit_there}
+use Rattle.layers.proofs.Caching.{faithful_same, faithful_fill, miss_fills, hit_there}
 use Rattle.layers.proofs.cache.CacheStore.get.Goals as goal
 
 pub returns-in-Some : goal.returns-in-Some
 returns-in-Some g c =
-    let there = hit_there (g.S.Store.meaning c.args.self.now.below) c.args.self.now.lines.table c.args.k c.in-Some.cell c.in-Some.ensures c.requires.1 in
+    let there = hit_there (g.S.Store.meaning c.args.self.now.below) c.args.self.now.lines.table c.args.k c.in-Some.cell c.in-Some.ensures c.args.self.now.faithful in
     search rules
 
 pub returns : goal.returns
 returns g c =
     let was = g.S.Store.meaning c.args.self.now.below in
-    let after = g.S.Store.meaning c.get.new.self in
     let cell = c.in_ok-cell.cell in
     let table = c.args.self.now.lines.table in
-    let below = c.in_ok-cell.ensures in
-    let there = got_there was c.args.k cell below.answer in
+    let there = got_there was c.args.k cell c.in_ok-cell.ensures.answer in
     record {
-      stays = (below.stays, faithful_fill was after table c.fill.new.self.table c.args.k cell there below.same c.fill.ensures c.requires.1);
       answer = search rules;
       same = search rules;
       untouched = search rules;
