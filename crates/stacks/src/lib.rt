@@ -3,7 +3,7 @@
 
 ghost use Rattle.std.specs.Prelude.{◌≡◌, true, is_err, IfOk, vec_len};
 ghost use Rattle.store.specs.Meaning.{fault_of, unless, claimed, after_put};
-ghost use Rattle.bases.specs.Images.{image_bytes};
+ghost use Rattle.bases.specs.Layouts.{image_bytes};
 ghost use Rattle.stacks.specs.Copies.{after_copies};
 ghost use Rattle.stacks.specs.Stacks.{image_stack, table_stack};
 
