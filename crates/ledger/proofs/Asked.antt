@@ -8,15 +8,15 @@ use Rattle.reference.specs.Beliefs.{count}
 use Rattle.calls.specs.declared.refusal.Refusal.TheVariants.{NoBelief}
 use Rattle.tree.specs.Making.{Unchanged}
 use Rattle.ledger.specs.declared.Row.{Row}
-use Rattle.ledger.specs.declared.Ledger.{Ledger}
+use Rattle.ledger.specs.Accounts.{Account}
 use Rattle.ledger.specs.Shown.{view_of, RowStands, shown, Stands}
 use Rattle.ledger.specs.Asking.{RowOf, NoRow}
 use Rattle.ledger.proofs.Showing.{length_beliefs, belief_at}
 
-module _ {E St T S : Type 0} (e : effect.Ghosts E St) (t : time.Ghosts T) (s : store.Ghosts S) (l : Ledger E T S) where
+module _ {E St T S : Type 0} (e : effect.Ghosts E St) (t : time.Ghosts T) (s : store.Ghosts S) (l : Account T S) where
   -- the ledger over its store as a reading left it
-  abbrev pub over : S → Ledger E T S
-  over read = record { store = read; rows = l.rows; latest = l.latest; effects = l.effects }
+  abbrev pub over : S → Account T S
+  over read = record { store = read; rows = l.rows; latest = l.latest }
 
   pub stands_over : (read : S) → Stands e t s l → Unchanged s l.store read → Stands e t s (over read)
   stands_over read h same = record {

@@ -1,5 +1,5 @@
 -- An entry, from what its insertion made.
-use Rattle.std.proofs.Common.{◌≡◌, ℕ, ◌+◌, ◌<◌, ◌≤◌, get_or, Some, None, Ok, Option, Result, sym, refl, ap, ◌∙◌, subst, arith}
+use Rattle.std.proofs.Common.{◌≡◌, ℕ, ◌+◌, ◌<◌, ◌≤◌, length, get_or, Some, None, Ok, Option, Result, sym, refl, ap, ◌∙◌, subst, arith}
 use Rattle.effects.specs.declared.Effect as effect
 use Rattle.times.specs.declared.Time as time
 use Rattle.store.specs.declared.Store as store
@@ -16,9 +16,9 @@ use Rattle.tree.specs.Reading.{read_from}
 use Rattle.tree.proofs.Keeping.{same_answer}
 use Rattle.law.proofs.Sorting.{length_entered}
 use Rattle.ledger.specs.declared.Row.{Row}
-use Rattle.ledger.specs.declared.Ledger.{Ledger}
+use Rattle.ledger.specs.Accounts.{Account}
 use Rattle.ledger.specs.Shown.{RowStands, shown, Stands}
-use Rattle.ledger.specs.Changing.{Next, Put}
+use Rattle.ledger.specs.Changing.{Newest, Next, Put}
 use Rattle.ledger.proofs.Lasting.{Entered}
 use Rattle.ledger.proofs.NewRows.{entry_stands}
 use Rattle.ledger.proofs.Showing.{latest_at, entry_verdict}
@@ -32,7 +32,7 @@ claim_none m n h =
     cases (fault_of m n) h
 
 -- The latest belief of a ledger that stands.
-module _ {E St T S : Type 0} (e : effect.Ghosts E St) (t : time.Ghosts T) (s : store.Ghosts S) (l : Ledger E T S) (h : Stands e t s l) where
+module _ {E St T S : Type 0} (e : effect.Ghosts E St) (t : time.Ghosts T) (s : store.Ghosts S) (l : Account T S) (h : Stands e t s l) where
   pub newest_at : (d : Row T) → latest_belief (shown e t s l).beliefs ≡ read_from e t (s.meaning l.store).cells (get_or l.rows l.latest d).root
   newest_at d = latest_at e t (s.meaning l.store) l.rows l.latest (omega (arith, h.rows, h.latest)) d
 
@@ -45,10 +45,22 @@ module _ {E St T S : Type 0} (e : effect.Ghosts E St) (t : time.Ghosts T) (s : s
   pub newest_entered : Entered l.rows (latest_belief (shown e t s l).beliefs)
   newest_entered = subst (Entered l.rows) (sym (newest_at empty)) latest_row.timed
 
+  -- its row reads as it, and has its count
+  pub newest_is : (d : Row T) → Newest e t (shown e t s l) (get_or l.rows l.latest d)
+  newest_is d =
+      let row = h.each l.latest d (omega arith) in
+      let reads = sym (newest_at d) in
+      record { tree = row.tree; reads = reads; counted = row.counted ∙ ap count reads; few = omega (arith, row.few, h.latest) }
+
   pub newest_few : count (latest_belief (shown e t s l).beliefs) ≤ l.latest
   newest_few = omega (arith, latest_row.counted, latest_row.few, ap count (newest_at empty))
 
-module _ {E St T S : Type 0} (e : effect.Ghosts E St) (t : time.Ghosts T) (s : store.Ghosts S) (effects_back : (f : E) → e.reads (e.words f) ≡ Some f) (times_back : (a : T) → t.reads (t.word a) ≡ Some a) (l : Ledger E T S) (h : Stands e t s l) (room : l.latest < 1023) where
+module _ {E St T S : Type 0} (e : effect.Ghosts E St) (t : time.Ghosts T) (s : store.Ghosts S) (effects_back : (f : E) → e.reads (e.words f) ≡ Some f) (times_back : (a : T) → t.reads (t.word a) ≡ Some a) (l : Account T S) (h : Stands e t s l) (room : l.latest < 1023) where
+  -- a claim that was accepted lets the insertion through
+  pub entry_made : (root : ℕ) (n : Meaning) (op : Operation E T) (got : Result ℕ Fault) → claimed (s.meaning l.store) 42 ≡ Ok tt → read_from e t (s.meaning l.store).cells root ≡ latest_belief (shown e t s l).beliefs →
+      (fault_of (s.meaning l.store) 42 ≡ None → length (read_from e t (s.meaning l.store).cells root) ≤ 1023 → Inserted e t (s.meaning l.store) n root op got 42) → Inserted e t (s.meaning l.store) n root op got 42
+  entry_made root n op got claim newest claimed_made = claimed_made (claim_none (s.meaning l.store) 42 claim) (omega (arith, newest_few e t s l h, ap count newest))
+
   pub entry_put : (at : T) (effect : E) (root : ℕ) (n : S) (got : Result ℕ Fault) (new_root : ℕ) → claimed (s.meaning l.store) 42 ≡ Ok tt → read_from e t (s.meaning l.store).cells root ≡ latest_belief (shown e t s l).beliefs → Inserted e t (s.meaning l.store) (s.meaning n) root (record { number = l.latest + 1; time = at; effect = effect }) got 42 → got ≡ Ok new_root →
       Put e t s (shown e t s l) (Enter at effect) (over e t s l n) new_root (Some at) × (count (read_from e t (s.meaning n).cells new_root) ≡ count (latest_belief (shown e t s l).beliefs) + 1)
   entry_put at effect root n got new_root claim newest made is =

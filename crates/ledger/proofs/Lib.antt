@@ -1,4 +1,4 @@
-pub mod Rows
+pub mod RowLists
 pub mod Empty
 pub mod Lasting
 pub mod NewRows

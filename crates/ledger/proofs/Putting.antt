@@ -11,10 +11,10 @@ use Rattle.calls.specs.declared.call.Call.{Call}
 use Rattle.calls.specs.Verdict.{verdict, makes, claim_of}
 use Rattle.tree.specs.Reading.{read_from}
 use Rattle.ledger.specs.declared.Row.{Row}
-use Rattle.ledger.specs.declared.Ledger.{Ledger}
+use Rattle.ledger.specs.Accounts.{Account}
 use Rattle.ledger.specs.Shown.{beliefs_of, RowStands, shown, Stands}
 use Rattle.ledger.specs.Changing.{Next, Put}
-use Rattle.ledger.proofs.Rows.{rows_same, rows_push}
+use Rattle.ledger.proofs.RowLists.{rows_same, rows_push}
 use Rattle.ledger.proofs.Lasting.{reads_more, row_with_cells}
 use Rattle.ledger.proofs.NewRows.{each_more}
 use Rattle.ledger.proofs.Showing.{length_beliefs, made_step}
@@ -23,10 +23,10 @@ use Rattle.ledger.proofs.Empty.{empty}
 
 module _ {E St T S : Type 0} (e : effect.Ghosts E St) (t : time.Ghosts T) (s : store.Ghosts S) where
   -- the ledger with one row more
-  abbrev pub with_row : Ledger E T S → Row T → Ledger E T S
-  with_row l row = record { store = l.store; rows = set l.rows (l.latest + 1) row; latest = l.latest + 1; effects = l.effects }
+  abbrev pub with_row : Account T S → Row T → Account T S
+  with_row l row = record { store = l.store; rows = set l.rows (l.latest + 1) row; latest = l.latest + 1 }
 
-  module _ (l : Ledger E T S) (row : Row T) (h : Stands e t s l) (room : l.latest < 1023) where
+  module _ (l : Account T S) (row : Row T) (h : Stands e t s l) (room : l.latest < 1023) where
     pub stands_row : Next e t s l row.root row.entered → row.count ≡ count (read_from e t (s.meaning l.store).cells row.root) → Stands e t s (with_row l row)
     stands_row next counts = record {
       rows = length-set l.rows (l.latest + 1) row ∙ h.rows;
@@ -38,12 +38,12 @@ module _ {E St T S : Type 0} (e : effect.Ghosts E St) (t : time.Ghosts T) (s : s
     unfolding beliefs_of
     shown_row = rows_push l.rows l.latest (omega (arith, h.rows)) (λ x. read_from e t (s.meaning l.store).cells x.root) row (omega (arith, h.rows))
 
-  module _ (effects_back : (f : E) → e.reads (e.words f) ≡ Some f) (times_back : (a : T) → t.reads (t.word a) ≡ Some a) (l : Ledger E T S) (h : Stands e t s l) (n : S) (new : List Cell) (gained : s.meaning n ≡ with_cells (s.meaning l.store) new) where
+  module _ (effects_back : (f : E) → e.reads (e.words f) ≡ Some f) (times_back : (a : T) → t.reads (t.word a) ≡ Some a) (l : Account T S) (h : Stands e t s l) (n : S) (new : List Cell) (gained : s.meaning n ≡ with_cells (s.meaning l.store) new) where
     pub grown : (s.meaning n).cells ≡ (s.meaning l.store).cells ++ new
     grown = ap (λ x. x.cells) gained
 
-    pub stands_put : s.sound n → Stands e t s (over e t s l n)
-    stands_put sound = record {
+    pub stands_put : Stands e t s (over e t s l n)
+    stands_put = record {
       rows = h.rows;
       latest = h.latest;
       each = λ b d inside. subst (λ c. RowStands e t c l.rows b (get_or l.rows b d)) (sym grown) (row_with_cells e t effects_back times_back (s.meaning l.store).cells new l.rows b (get_or l.rows b d) (h.each b d inside));

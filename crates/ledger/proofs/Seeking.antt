@@ -1,5 +1,6 @@
 -- An operation of the latest belief, sought by the row of its number, and the refusals of a change.
-use Rattle.std.proofs.Common.{◌≡◌, ℕ, ◌+◌, ◌<◌, Bool, true, false, length, get_or, IfOk, IfErr, Some, None, Ok, Err, Result, sym, ap, ◌∙◌, arith}
+use Rattle.std.proofs.Common.{◌≡◌, ℕ, ◌+◌, ◌<◌, Bool, true, false, length, get_or, IfOk, IfErr, IfSome, MatchOption, Some, None, Ok, Err, Result, sym, ap, ◌∙◌, subst, arith}
+use Rattle.std.specs.Bool.{then_some}
 use Rattle.effects.specs.declared.Effect as effect
 use Rattle.times.specs.declared.Time as time
 use Rattle.store.specs.declared.Store as store
@@ -14,16 +15,16 @@ use Rattle.order.specs.Order as order
 use Rattle.order.proofs.Orders.{TimeLaws}
 use Rattle.tree.specs.Reading.{read_from}
 use Rattle.tree.proofs.Keeping.{same_answer}
-use Rattle.law.specs.Runs.{Step}
+use Rattle.law.specs.Runs.{View, Step}
 use Rattle.ledger.specs.declared.Row.{Row}
-use Rattle.ledger.specs.declared.Ledger.{Ledger}
+use Rattle.ledger.specs.Accounts.{Account}
 use Rattle.ledger.specs.Shown.{shown, Stands}
 use Rattle.ledger.proofs.Showing.{refused_step, entry_refused, withdrawal_refused, withdrawal_missing}
 use Rattle.ledger.proofs.Found.{timed_from, has_above, has_unentered, has_timed}
 use Rattle.ledger.proofs.Entries.{newest_at, newest_below, newest_entered}
 use Rattle.ledger.proofs.Empty.{empty}
 
-module _ {E St T S : Type 0} (e : effect.Ghosts E St) (t : time.Ghosts T) (s : store.Ghosts S) (l : Ledger E T S) (h : Stands e t s l) where
+module _ {E St T S : Type 0} (e : effect.Ghosts E St) (t : time.Ghosts T) (s : store.Ghosts S) (l : Account T S) (h : Stands e t s l) where
   -- the latest belief as the ledger shows it
   abbrev pub newest : Belief E T
   newest = latest_belief (shown e t s l).beliefs
@@ -49,6 +50,16 @@ module _ {E St T S : Type 0} (e : effect.Ghosts E St) (t : time.Ghosts T) (s : s
     -- a withdrawal of what is not there is refused
     pub missing_step : (n : ℕ) → has n newest ≡ false → Step (kinds e t) (Withdraw n) (Err (NoOperation n)) (shown e t s l) (shown e t s l)
     missing_step n missing = refused_step e t (s.meaning l.store) l.rows l.latest fits (Withdraw n) (NoOperation n) (withdrawal_missing e t (s.meaning l.store) l.rows l.latest fits _ n empty room (ap (has n) (sym (newest_at e t s l h empty)) ∙ missing))
+
+    -- what a search found, of a view w that is the ledger's
+    pub found_told : (n : ℕ) (at : T) (there : Bool) (w : View E T) → w ≡ shown e t s l → has n newest ≡ there →
+        MatchOption (then_some there at) (Step (kinds e t) (Withdraw n) (Err (NoOperation n)) (shown e t s l) w) (λ _. has n (latest_belief w.beliefs) ≡ true)
+    found_told n at true w same is = subst (λ v. has n (latest_belief v.beliefs) ≡ true) (sym same) is
+    found_told n at false w same is = subst (λ v. Step (kinds e t) (Withdraw n) (Err (NoOperation n)) (shown e t s l) v) (sym same) (missing_step n is)
+
+    pub found_timed : (n : ℕ) (at : T) (there : Bool) (w : View E T) → w ≡ shown e t s l → Timed n at newest → IfSome (then_some there at) (λ time. Timed n time (latest_belief w.beliefs))
+    found_timed n at true w same timed = subst (λ v. Timed n at (latest_belief v.beliefs)) (sym same) timed
+    found_timed n at false w same timed = tt
 
     entry_fault : (cells : ℕ) (fault : Fault) → claimed (s.meaning l.store) cells ≡ Err fault → (at : T) (effect : E) → cells ≡ 42 → Step (kinds e t) (Enter at effect) (Err (Store fault)) (shown e t s l) (shown e t s l)
     entry_fault cells fault is at effect amount = refused_step e t (s.meaning l.store) l.rows l.latest fits (Enter at effect) (Store fault) (entry_refused e t (s.meaning l.store) l.rows l.latest fits at effect fault room (ap (claimed (s.meaning l.store)) (sym amount) ∙ is))

@@ -20,7 +20,7 @@ use Rattle.tree.specs.Reading.{read_from}
 use Rattle.law.specs.Runs.{View, Grows, Outcome, Step}
 use Rattle.ledger.specs.declared.Row.{Row}
 use Rattle.ledger.specs.Shown.{beliefs_of, view_of}
-use Rattle.ledger.proofs.Rows.{length_rows, row_at}
+use Rattle.ledger.proofs.RowLists.{length_rows, row_at}
 
 module _ {E St T : Type 0} (e : effect.Ghosts E St) (t : time.Ghosts T) (m : Meaning) (rows : List (Row T)) (latest : ℕ) (inside : latest < length rows) where
   -- the operations of a row's belief

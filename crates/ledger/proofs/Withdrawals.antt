@@ -1,10 +1,10 @@
 -- A withdrawal, from what its removal made.
-use Rattle.std.proofs.Common.{◌≡◌, ℕ, ◌+◌, ◌<◌, true, get_or, Some, None, Ok, Option, Result, sym, ap, ◌∙◌, subst, arith}
+use Rattle.std.proofs.Common.{◌≡◌, ℕ, ◌+◌, ◌<◌, ◌≤◌, true, length, get_or, Some, None, Ok, Option, Result, sym, ap, ◌∙◌, subst, arith}
 use Rattle.effects.specs.declared.Effect as effect
 use Rattle.times.specs.declared.Time as time
 use Rattle.store.specs.declared.Store as store
 use Rattle.store.specs.declared.fault.Fault.{Fault}
-use Rattle.store.specs.Meaning.{claimed}
+use Rattle.store.specs.Meaning.{Meaning, fault_of, claimed}
 use Rattle.reference.specs.Beliefs.{kinds, without, count}
 use Rattle.calls.specs.declared.call.Call.TheVariants.{Withdraw}
 use Rattle.calls.specs.Verdict.{has, latest_belief, granted}
@@ -16,7 +16,7 @@ use Rattle.questions.specs.Standing.{Standing}
 use Rattle.questions.proofs.Stands.{standing_reads}
 use Rattle.removal.specs.Removing.{Removed}
 use Rattle.tree.specs.Reading.{read_from}
-use Rattle.ledger.specs.declared.Ledger.{Ledger}
+use Rattle.ledger.specs.Accounts.{Account}
 use Rattle.ledger.specs.Shown.{shown, Stands}
 use Rattle.ledger.specs.Changing.{Next, Put}
 use Rattle.ledger.proofs.NewRows.{withdrawal_stands}
@@ -24,7 +24,7 @@ use Rattle.ledger.proofs.Showing.{withdrawal_verdict}
 use Rattle.ledger.proofs.Found.{count_without, has_timed}
 use Rattle.ledger.proofs.Asked.{over}
 use Rattle.ledger.proofs.Putting.{cells_put}
-use Rattle.ledger.proofs.Entries.{newest_at, newest_below, newest_entered, newest_few}
+use Rattle.ledger.proofs.Entries.{claim_none, newest_at, newest_below, newest_entered, newest_few}
 use Rattle.ledger.proofs.Empty.{empty}
 
 same_root : (a b : ℕ) → ◌≡◌ {A = Result (Option ℕ) Fault} (Ok (Some a)) (Ok (Some b)) → a ≡ b
@@ -32,13 +32,21 @@ same_root a b h = cc
 
 module _ {E St T S : Type 0} (e : effect.Ghosts E St) (t : time.Ghosts T) (s : store.Ghosts S) (laws : TimeLaws t.upto) where
   -- what has the number and the time is there
-  pub there : (l : Ledger E T S) (root n : ℕ) (at : T) → read_from e t (s.meaning l.store).cells root ≡ latest_belief (shown e t s l).beliefs → has n (latest_belief (shown e t s l).beliefs) ≡ true → Timed n at (latest_belief (shown e t s l).beliefs) → order.has (kinds e t) n at (read_from e t (s.meaning l.store).cells root) ≡ true
+  pub there : (l : Account T S) (root n : ℕ) (at : T) → read_from e t (s.meaning l.store).cells root ≡ latest_belief (shown e t s l).beliefs → has n (latest_belief (shown e t s l).beliefs) ≡ true → Timed n at (latest_belief (shown e t s l).beliefs) → order.has (kinds e t) n at (read_from e t (s.meaning l.store).cells root) ≡ true
   there l root n at newest found timed = ap (order.has (kinds e t) n at) newest ∙ has_timed (kinds e t) laws n at (latest_belief (shown e t s l).beliefs) timed ∙ found
 
-module _ {E St T S : Type 0} (e : effect.Ghosts E St) (t : time.Ghosts T) (s : store.Ghosts S) (effects_back : (f : E) → e.reads (e.words f) ≡ Some f) (times_back : (a : T) → t.reads (t.word a) ≡ Some a) (laws : TimeLaws t.upto) (l : Ledger E T S) (h : Stands e t s l) (room : l.latest < 1023) where
+module _ {E St T S : Type 0} (e : effect.Ghosts E St) (t : time.Ghosts T) (s : store.Ghosts S) (effects_back : (f : E) → e.reads (e.words f) ≡ Some f) (times_back : (a : T) → t.reads (t.word a) ≡ Some a) (laws : TimeLaws t.upto) (l : Account T S) (h : Stands e t s l) (room : l.latest < 1023) where
   -- the latest belief is in order
   newest_sorted : (root : ℕ) → Standing e t (s.meaning l.store).cells root → read_from e t (s.meaning l.store).cells root ≡ latest_belief (shown e t s l).beliefs → Sorted (kinds e t) (latest_belief (shown e t s l).beliefs)
   newest_sorted root tree newest = subst (Sorted (kinds e t)) (sym (standing_reads e t effects_back times_back (s.meaning l.store).cells root tree) ∙ newest) tree.sorted
+
+  -- a claim that was accepted lets the removal of what is there through
+  pub withdrawal_made : (root n : ℕ) (at : T) (after : Meaning) (got : Result (Option ℕ) Fault) → claimed (s.meaning l.store) 42 ≡ Ok tt → read_from e t (s.meaning l.store).cells root ≡ latest_belief (shown e t s l).beliefs →
+      has n (latest_belief (shown e t s l).beliefs) ≡ true → Timed n at (latest_belief (shown e t s l).beliefs) →
+      (order.has (kinds e t) n at (read_from e t (s.meaning l.store).cells root) ≡ true → fault_of (s.meaning l.store) 42 ≡ None → length (read_from e t (s.meaning l.store).cells root) ≤ 1023 → Removed e t (s.meaning l.store) after root n at got 42) →
+      Removed e t (s.meaning l.store) after root n at got 42
+  withdrawal_made root n at after got claim newest found timed claimed_made =
+      claimed_made (there e t s laws l root n at newest found timed) (claim_none (s.meaning l.store) 42 claim) (omega (arith, newest_few e t s l h, ap count newest))
 
   pub withdrawal_put : (n : ℕ) (at : T) (root : ℕ) (after : S) (got : Result (Option ℕ) Fault) (new_root : ℕ) → has n (latest_belief (shown e t s l).beliefs) ≡ true → Timed n at (latest_belief (shown e t s l).beliefs) → claimed (s.meaning l.store) 42 ≡ Ok tt → Standing e t (s.meaning l.store).cells root → read_from e t (s.meaning l.store).cells root ≡ latest_belief (shown e t s l).beliefs → Removed e t (s.meaning l.store) (s.meaning after) root n at got 42 → got ≡ Ok (Some new_root) →
       Put e t s (shown e t s l) (Withdraw n) (over e t s l after) new_root None × (count (read_from e t (s.meaning after).cells new_root) + 1 ≡ count (latest_belief (shown e t s l).beliefs))

@@ -11,7 +11,7 @@ use Rattle.questions.specs.Standing.{Standing}
 use Rattle.tree.specs.Reading.{read_from}
 use Rattle.law.specs.Runs.{View, Step}
 use Rattle.ledger.specs.declared.Row.{Row}
-use Rattle.ledger.specs.declared.Ledger.{Ledger}
+use Rattle.ledger.specs.Accounts.{Account}
 use Rattle.ledger.specs.Shown.{RowStands, shown}
 
 module _ {E St T : Type 0} (e : effect.Ghosts E St) (t : time.Ghosts T) where
@@ -24,11 +24,11 @@ module _ {E St T : Type 0} (e : effect.Ghosts E St) (t : time.Ghosts T) where
 
   module _ {S : Type 0} (s : store.Ghosts S) where
     -- As the next row of l stands every row of this root and of this time, with the count of the root's operations.
-    pub record Next (l : Ledger E T S) (root : ℕ) (entered : Option T) : Type 0 where
+    pub record Next (l : Account T S) (root : ℕ) (entered : Option T) : Type 0 where
       pub stands : (row : Row T) → row.root ≡ root → row.entered ≡ entered → row.count ≡ count (read_from e t (s.meaning l.store).cells root) → RowStands e t (s.meaning l.store).cells (slice_set l.rows (l.latest + 1) row) (l.latest + 1) row
 
     -- The ledger that showed v has put the cells of the change c and is now l, with the belief at `root` to come.
-    pub record Put (v : View E T) (c : Call E T) (l : Ledger E T S) (root : ℕ) (entered : Option T) : Type 0 where
+    pub record Put (v : View E T) (c : Call E T) (l : Account T S) (root : ℕ) (entered : Option T) : Type 0 where
       pub beliefs : (shown e t s l).beliefs ≡ v.beliefs
       pub many : length v.beliefs ≡ l.latest + 1
       pub grown : length v.store.cells ≤ length (s.meaning l.store).cells

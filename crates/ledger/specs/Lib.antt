@@ -1,3 +1,4 @@
+pub mod Accounts
 pub mod Shown
 pub mod Asking
 pub mod Changing

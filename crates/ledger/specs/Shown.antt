@@ -1,4 +1,4 @@
--- What a ledger shows, and what it is known by since it was opened.
+-- What a ledger shows, and what is true of every ledger.
 use Rattle.std.specs.Prelude.{◌≡◌, ℕ, ◌+◌, ◌<◌, ◌≤◌, List, map, length, get_or, take, Some, slice_index_or}
 use Rattle.std.specs.List.{AllByRecursion}
 use Rattle.effects.specs.declared.Effect as effect
@@ -13,7 +13,7 @@ use Rattle.questions.specs.Standing.{Standing}
 use Rattle.tree.specs.Reading.{read_from}
 use Rattle.law.specs.Runs.{View}
 use Rattle.ledger.specs.declared.Row.{Row}
-use Rattle.ledger.specs.declared.Ledger.{Ledger}
+use Rattle.ledger.specs.Accounts.{Account}
 
 module _ {E St T : Type 0} (e : effect.Ghosts E St) (t : time.Ghosts T) where
   -- the beliefs 0 to the latest: the operations of each are read out of the cells from the root in its row
@@ -34,11 +34,11 @@ module _ {E St T : Type 0} (e : effect.Ghosts E St) (t : time.Ghosts T) where
 
   module _ {S : Type 0} (s : store.Ghosts S) where
     -- What a ledger shows.
-    abbrev pub shown : Ledger E T S → View E T
+    abbrev pub shown : Account T S → View E T
     shown l = view_of (s.meaning l.store) l.rows l.latest
 
-    -- The ledger was opened, and has since had only its own calls.
-    pub record Stands (l : Ledger E T S) : Type 0 where
+    -- What is true of every ledger: it has a row for each belief that there may be, and those of its beliefs stand.
+    pub record Stands (l : Account T S) : Type 0 where
       pub rows : length l.rows ≡ 1024
       pub latest : l.latest < 1024
       pub each : (b : ℕ) (d : Row T) → b ≤ l.latest → RowStands (s.meaning l.store).cells l.rows b (slice_index_or l.rows b d)

@@ -4,9 +4,10 @@ ghost use Rattle.reference.specs.Beliefs.{kinds, state, latest};
 ghost use Rattle.calls.specs.Verdict.{state_of, latest_of, count_of};
 ghost use Rattle.questions.specs.Standing.{Standing};
 ghost use Rattle.tree.specs.Reading.{read_from};
-ghost use Rattle.ledger.specs.Shown.{shown, Stands};
+ghost use Rattle.ledger.specs.Shown.{shown};
 ghost use Rattle.ledger.specs.Asking.{RowOf, NoRow};
 
+use crate::rows::row_at;
 use crate::{Ledger, Row};
 use calls::Refusal;
 use effects::Effect;
@@ -17,20 +18,17 @@ use times::Time;
 impl<E: Effect, T: Time, S: Store> Ledger<E, T, S> {
     // The row of a belief, if there is that belief.
     fn row_of(&self, belief: u32) -> Result<Row<T>, Refusal>
-        requires { Stands E.Effect T.Time S.Store self.now }
         ensures { MatchResult result (RowOf E.Effect T.Time (shown E.Effect T.Time S.Store self.now) belief) (NoRow E.Effect T.Time (shown E.Effect T.Time S.Store self.now) belief) }
     {
         if self.latest < belief {
             return Err(Refusal::NoBelief(belief));
         }
-        Ok(self.rows[belief as usize])
+        Ok(row_at(&self.rows, belief))
     }
 
     // The state at a time, of the operations at a root.
     fn state_from(&mut self, root: u32, time: T) -> Result<E::State, Refusal>
-        requires stands { Stands E.Effect T.Time S.Store self.old }
         requires tree { Standing E.Effect T.Time (S.Store.meaning self.old.store).cells root }
-        ensures stands { Stands E.Effect T.Time S.Store self.new }
         ensures answer { result ≡ Ok (state (kinds E.Effect T.Time) (read_from E.Effect T.Time (S.Store.meaning self.old.store).cells root) time) }
         ensures same { shown E.Effect T.Time S.Store self.new ≡ shown E.Effect T.Time S.Store self.old }
         ensures rows { self.new.rows ≡ self.old.rows }
@@ -42,9 +40,7 @@ impl<E: Effect, T: Time, S: Store> Ledger<E, T, S> {
 
     // The last operation not after a time, of those at a root.
     fn latest_from(&mut self, root: u32, time: T) -> Result<Option<(u32, T)>, Refusal>
-        requires stands { Stands E.Effect T.Time S.Store self.old }
         requires tree { Standing E.Effect T.Time (S.Store.meaning self.old.store).cells root }
-        ensures stands { Stands E.Effect T.Time S.Store self.new }
         ensures answer { result ≡ Ok (latest (kinds E.Effect T.Time) (read_from E.Effect T.Time (S.Store.meaning self.old.store).cells root) time) }
         ensures same { shown E.Effect T.Time S.Store self.new ≡ shown E.Effect T.Time S.Store self.old }
         ensures rows { self.new.rows ≡ self.old.rows }
@@ -56,8 +52,6 @@ impl<E: Effect, T: Time, S: Store> Ledger<E, T, S> {
 
     // The state at a time, as believed at a belief.
     pub fn state(&mut self, belief: u32, time: T) -> Result<E::State, Refusal>
-        requires { Stands E.Effect T.Time S.Store self.old }
-        ensures stands { Stands E.Effect T.Time S.Store self.new }
         ensures answer { result ≡ state_of (kinds E.Effect T.Time) (shown E.Effect T.Time S.Store self.old).beliefs belief time }
         ensures same { shown E.Effect T.Time S.Store self.new ≡ shown E.Effect T.Time S.Store self.old }
         ensures rows { self.new.rows ≡ self.old.rows }
@@ -69,8 +63,6 @@ impl<E: Effect, T: Time, S: Store> Ledger<E, T, S> {
 
     // Number and time of the last operation not after a time, as believed at a belief, or none.
     pub fn latest(&mut self, belief: u32, time: T) -> Result<Option<(u32, T)>, Refusal>
-        requires { Stands E.Effect T.Time S.Store self.old }
-        ensures stands { Stands E.Effect T.Time S.Store self.new }
         ensures answer { result ≡ latest_of (kinds E.Effect T.Time) (shown E.Effect T.Time S.Store self.old).beliefs belief time }
         ensures same { shown E.Effect T.Time S.Store self.new ≡ shown E.Effect T.Time S.Store self.old }
         ensures rows { self.new.rows ≡ self.old.rows }
@@ -82,7 +74,6 @@ impl<E: Effect, T: Time, S: Store> Ledger<E, T, S> {
 
     // How many operations a belief has.
     pub fn count(&self, belief: u32) -> Result<u32, Refusal>
-        requires { Stands E.Effect T.Time S.Store self.now }
         ensures { result ≡ count_of (shown E.Effect T.Time S.Store self.now).beliefs belief }
     {
         let row = self.row_of(belief)?;

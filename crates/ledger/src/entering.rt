@@ -8,7 +8,7 @@ ghost use Rattle.calls.specs.Verdict.{told, latest_belief, claim_of};
 ghost use Rattle.law.specs.Runs.{Step};
 ghost use Rattle.questions.specs.Standing.{Standing};
 ghost use Rattle.tree.specs.Reading.{read_from};
-ghost use Rattle.ledger.specs.Shown.{shown, Stands};
+ghost use Rattle.ledger.specs.Shown.{shown};
 ghost use Rattle.ledger.specs.Changing.{Put};
 
 use crate::{Ledger, Row};
@@ -23,12 +23,10 @@ use times::Time;
 impl<E: Effect, T: Time, S: Store> Ledger<E, T, S> {
     // Puts the cells of an entry into the latest belief, whose root is given, and answers the root of the next.
     fn plant(&mut self, root: u32, time: T, effect: E) -> Result<u32, Refusal>
-        requires stands { Stands E.Effect T.Time S.Store self.old }
         requires room { self.old.latest < 1023 }
         requires granted { claimed (S.Store.meaning self.old.store) (claim_of (Enter time effect)) ≡ Ok tt }
         requires tree { Standing E.Effect T.Time (S.Store.meaning self.old.store).cells root }
         requires newest { read_from E.Effect T.Time (S.Store.meaning self.old.store).cells root ≡ latest_belief (shown E.Effect T.Time S.Store self.old).beliefs }
-        ensures stands { Stands E.Effect T.Time S.Store self.new }
         ensures latest { self.new.latest ≡ self.old.latest }
         ensures rows { self.new.rows ≡ self.old.rows }
         ensures put { MatchResult result (λ new. Put E.Effect T.Time S.Store (shown E.Effect T.Time S.Store self.old) (Enter time effect) self.new new (Some time)) (λ _. ⊥) }
@@ -45,8 +43,6 @@ impl<E: Effect, T: Time, S: Store> Ledger<E, T, S> {
 
     // Enters an effect at a time, late or not.
     pub fn enter(&mut self, time: T, effect: E) -> Result<(u32, u32), Refusal>
-        requires { Stands E.Effect T.Time S.Store self.old }
-        ensures stands { Stands E.Effect T.Time S.Store self.new }
         ensures step { Step (kinds E.Effect T.Time) (Enter time effect) (told Changed result) (shown E.Effect T.Time S.Store self.old) (shown E.Effect T.Time S.Store self.new) }
         ensures earlier { take (self.old.latest + 1) self.new.rows ≡ take (self.old.latest + 1) self.old.rows }
         ensures refused { is_err result ≡ true → self.new ≡ self.old }
@@ -57,10 +53,10 @@ impl<E: Effect, T: Time, S: Store> Ledger<E, T, S> {
         if let Err(fault) = self.claim(CELLS_TO_ENTER) {
             return Err(Refusal::Store(fault));
         }
-        let before = self.store.len();
+        let before = self.cells();
         let row = self.newest_row();
         let root = self.plant(row.root, time, effect)?;
-        let cells = self.store.len() - before;
+        let cells = self.cells() - before;
         let belief = self.believe(Row {
             root,
             entered: Some(time),

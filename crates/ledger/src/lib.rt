@@ -1,12 +1,16 @@
 // The ledger: beliefs of a printer, each a tree in the cells of a store.
 #![tactic(auto)]
 
-use std::marker::PhantomData;
+use effects::Effect;
+use std::marker::{Model, PhantomData};
+use store::Store;
+use times::Time;
 
 pub mod asking;
 pub mod changes;
 pub mod entering;
 pub mod opening;
+mod rows;
 pub mod withdrawing;
 
 // A belief: the number of its root's cell, 0 where it is empty, the time of the operation that its change entered, if it
@@ -20,9 +24,21 @@ pub struct Row<T> {
 
 // A ledger of effects E at times T over the store S, which it owns. Rows above the latest belief's mean nothing.
 #[derive(Drop)]
-pub struct Ledger<E, T, S> {
+pub struct Ledger<E: Effect, T: Time, S: Store> {
     store: S,
     rows: [Row<T>; 1024],
     latest: u32,
     effects: PhantomData<E>,
+}
+
+// Contracts see the store, the rows and the latest belief's number; that the rows stand is true of every ledger.
+impl<E: Effect, T: Time, S: Store> Model for Ledger<E, T, S> {
+    ghost use Rattle.ledger.specs.Accounts.{Account};
+    ghost use Rattle.ledger.specs.Shown.{Stands};
+
+    ghost Value = { Account T S };
+
+    ghost view = { λ l. record { store = l.store; rows = l.rows; latest = l.latest } };
+
+    ghost invariant = { λ l. Stands E.Effect T.Time S.Store (record { store = l.store; rows = l.rows; latest = l.latest }) };
 }

@@ -1,7 +1,7 @@
 // Opening a ledger over a store, and taking it apart.
 ghost use Rattle.std.specs.Prelude.{◌≡◌};
 ghost use Rattle.law.specs.Runs.{opened};
-ghost use Rattle.ledger.specs.Shown.{shown, Stands};
+ghost use Rattle.ledger.specs.Shown.{shown};
 
 use crate::{Ledger, Row};
 use effects::Effect;
@@ -13,7 +13,6 @@ impl<E: Effect, T: Time, S: Store> Ledger<E, T, S> {
     // A ledger over a store, with belief 0 alone. The store may have cells.
     pub fn open(store: S) -> Self
         ensures shown { shown E.Effect T.Time S.Store result ≡ opened (S.Store.meaning store) }
-        ensures stands { Stands E.Effect T.Time S.Store result }
         ensures store { result.store ≡ store }
     {
         Ledger {
@@ -30,7 +29,6 @@ impl<E: Effect, T: Time, S: Store> Ledger<E, T, S> {
 
     // The store, with all its cells.
     pub fn close(self) -> S
-        requires { Stands E.Effect T.Time S.Store self }
         ensures meaning { S.Store.meaning result ≡ (shown E.Effect T.Time S.Store self).store }
         ensures store { result ≡ self.store }
     {

@@ -10,9 +10,10 @@ ghost use Rattle.law.specs.Runs.{Step};
 ghost use Rattle.order.specs.Order.{Timed};
 ghost use Rattle.questions.specs.Standing.{Standing};
 ghost use Rattle.tree.specs.Reading.{read_from};
-ghost use Rattle.ledger.specs.Shown.{shown, Stands};
+ghost use Rattle.ledger.specs.Shown.{shown};
 ghost use Rattle.ledger.specs.Changing.{Put};
 
+use crate::rows::row_at;
 use crate::{Ledger, Row};
 use calls::Refusal;
 use calls::call::{CELLS_TO_WITHDRAW, LAST_BELIEF};
@@ -25,14 +26,12 @@ use times::Time;
 impl<E: Effect, T: Time, S: Store> Ledger<E, T, S> {
     // Puts the cells of a withdrawal from the latest belief, whose root is given, and answers the root of the next.
     fn uproot(&mut self, root: u32, operation: u32, time: T) -> Result<u32, Refusal>
-        requires stands { Stands E.Effect T.Time S.Store self.old }
         requires room { self.old.latest < 1023 }
         requires there { has operation (latest_belief (shown E.Effect T.Time S.Store self.old).beliefs) ≡ true }
         requires timed { Timed operation time (latest_belief (shown E.Effect T.Time S.Store self.old).beliefs) }
         requires granted { claimed (S.Store.meaning self.old.store) (claim_of {E = E} {T = T} (Withdraw operation)) ≡ Ok tt }
         requires tree { Standing E.Effect T.Time (S.Store.meaning self.old.store).cells root }
         requires newest { read_from E.Effect T.Time (S.Store.meaning self.old.store).cells root ≡ latest_belief (shown E.Effect T.Time S.Store self.old).beliefs }
-        ensures stands { Stands E.Effect T.Time S.Store self.new }
         ensures latest { self.new.latest ≡ self.old.latest }
         ensures rows { self.new.rows ≡ self.old.rows }
         ensures put { MatchResult result (λ new. Put E.Effect T.Time S.Store (shown E.Effect T.Time S.Store self.old) (Withdraw operation) self.new new None) (λ _. ⊥) }
@@ -47,9 +46,7 @@ impl<E: Effect, T: Time, S: Store> Ledger<E, T, S> {
 
     // The time of an operation of the latest belief, if it is there.
     fn sought(&mut self, operation: u32) -> Result<Option<T>, Refusal>
-        requires stands { Stands E.Effect T.Time S.Store self.old }
         requires room { self.old.latest < 1023 }
-        ensures stands { Stands E.Effect T.Time S.Store self.new }
         ensures rows { self.new.rows ≡ self.old.rows }
         ensures latest { self.new.latest ≡ self.old.latest }
         ensures buffer { S.Store.buffer self.new.store ≡ S.Store.buffer self.old.store }
@@ -60,22 +57,19 @@ impl<E: Effect, T: Time, S: Store> Ledger<E, T, S> {
         if self.latest < operation {
             return Ok(None);
         }
-        let entered = self.rows[operation as usize].entered;
-        let Some(time) = entered else {
+        let Some(time) = row_at(&self.rows, operation).entered else {
             return Ok(None);
         };
-        let root = self.rows[self.latest as usize].root;
+        let root = row_at(&self.rows, self.latest).root;
         let there = find::<E, T, S>(&mut self.store, root, operation, time)?;
-        if there { Ok(Some(time)) } else { Ok(None) }
+        Ok(there.then_some(time))
     }
 
     // Withdraws an operation of the latest belief, whose time is given, unless the store refuses the claim.
     fn strike(&mut self, operation: u32, time: T) -> Result<(u32, u32), Refusal>
-        requires stands { Stands E.Effect T.Time S.Store self.old }
         requires room { self.old.latest < 1023 }
         requires there { has operation (latest_belief (shown E.Effect T.Time S.Store self.old).beliefs) ≡ true }
         requires timed { Timed operation time (latest_belief (shown E.Effect T.Time S.Store self.old).beliefs) }
-        ensures stands { Stands E.Effect T.Time S.Store self.new }
         ensures step { Step (kinds E.Effect T.Time) (Withdraw operation) (told Changed result) (shown E.Effect T.Time S.Store self.old) (shown E.Effect T.Time S.Store self.new) }
         ensures earlier { take (self.old.latest + 1) self.new.rows ≡ take (self.old.latest + 1) self.old.rows }
         ensures refused { is_err result ≡ true → self.new ≡ self.old }
@@ -83,10 +77,10 @@ impl<E: Effect, T: Time, S: Store> Ledger<E, T, S> {
         if let Err(fault) = self.claim(CELLS_TO_WITHDRAW) {
             return Err(Refusal::Store(fault));
         }
-        let before = self.store.len();
+        let before = self.cells();
         let row = self.newest_row();
         let root = self.uproot(row.root, operation, time)?;
-        let cells = self.store.len() - before;
+        let cells = self.cells() - before;
         let belief = self.believe(Row {
             root,
             entered: None,
@@ -97,8 +91,6 @@ impl<E: Effect, T: Time, S: Store> Ledger<E, T, S> {
 
     // Withdraws an operation of the latest belief.
     pub fn withdraw(&mut self, operation: u32) -> Result<(u32, u32), Refusal>
-        requires { Stands E.Effect T.Time S.Store self.old }
-        ensures stands { Stands E.Effect T.Time S.Store self.new }
         ensures step { Step (kinds E.Effect T.Time) (Withdraw operation) (told Changed result) (shown E.Effect T.Time S.Store self.old) (shown E.Effect T.Time S.Store self.new) }
         ensures earlier { take (self.old.latest + 1) self.new.rows ≡ take (self.old.latest + 1) self.old.rows }
         ensures rows { is_err result ≡ true → self.new.rows ≡ self.old.rows }

@@ -2,7 +2,12 @@
 use Rattle.ledger.proofs.Seeking.{claim_told}
 use Rattle.ledger.proofs.Ledger.claim.Goals as goal
 
-pub returns : goal.returns
-returns g c =
-    let told = claim_told g.E.Effect g.T.Time g.S.Store c.args.self.now c.requires.stands c.requires.room c.args.cells c.claim.result c.claim.ensures in
-    record { granted = told.0; entry = told.1; withdrawal = told.2 }
+pub returns-clause-entry : goal.returns-clause-entry
+returns-clause-entry g c =
+    let room = rw (← c.self.view_is) at c.requires.room in
+    rw (← c.self.view_is) (claim_told g.E.Effect g.T.Time g.S.Store _ c.self.invariant room c.args.cells c.claim.result c.claim.ensures).1
+
+pub returns-clause-withdrawal : goal.returns-clause-withdrawal
+returns-clause-withdrawal g c =
+    let room = rw (← c.self.view_is) at c.requires.room in
+    rw (← c.self.view_is) (claim_told g.E.Effect g.T.Time g.S.Store _ c.self.invariant room c.args.cells c.claim.result c.claim.ensures).2

@@ -1,12 +1,12 @@
+-- A ledger just opened shows belief 0 alone, and its row stands.
 use Rattle.std.proofs.Common.{refl, arith}
 use Rattle.ledger.proofs.Empty.{all_empty}
 use Rattle.ledger.specs.Shown.{beliefs_of}
 use Rattle.ledger.proofs.Ledger.open.Goals as goal
 
-pub returns : goal.returns
+pub invariant_of-result : goal.invariant_of-result
+invariant_of-result g c = record { rows = refl; latest = omega arith; each = all_empty g.E.Effect g.T.Time (g.S.Store.meaning c.args.store).cells }
+
+pub returns-clause-shown : goal.returns-clause-shown
 unfolding beliefs_of
-returns g c = record {
-  shown = refl;
-  store = refl;
-  stands = record { sound = c.requires; rows = refl; latest = omega arith; each = all_empty g.E.Effect g.T.Time (g.S.Store.meaning c.args.store).cells };
-}
+returns-clause-shown g c = refl

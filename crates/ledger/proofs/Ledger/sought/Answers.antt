@@ -1,79 +1,47 @@
 -- Whether an operation is there, by the row of its number and the tree.
-use Rattle.std.proofs.Common.{◌≡◌, true, Err, sym, refl, ◌∙◌, subst}
-use Rattle.reference.specs.Beliefs.{kinds}
-use Rattle.calls.specs.declared.call.Call.TheVariants.{Withdraw}
-use Rattle.calls.specs.declared.refusal.Refusal.TheVariants.{NoOperation}
-use Rattle.calls.specs.Verdict.{has, latest_belief}
-use Rattle.order.specs.Order.{Timed}
+use Rattle.std.proofs.Common.{◌≡◌, None, Some, sym, ap, ◌∙◌}
 use Rattle.order.proofs.Orders.{TimeLaws}
-use Rattle.law.specs.Runs.{Step}
-use Rattle.ledger.specs.Shown.{shown}
 use Rattle.ledger.proofs.Asked.{stands_over, shown_over}
-use Rattle.ledger.proofs.Seeking.{missing_above, missing_unentered, missing_step, newest_timed, newest_has}
+use Rattle.ledger.proofs.Seeking.{missing_above, missing_unentered, missing_step, newest_timed, newest_has, found_told, found_timed}
 use Rattle.ledger.proofs.Ledger.sought.Given as given
 use Rattle.ledger.proofs.Ledger.sought.Goals as goal
 
 laws : (g : given.Over) → TimeLaws g.T.Time.upto
 laws g = record { total = g.met.T.Time.total; transitive = g.met.T.Time.transitive }
 
-pub returns-then-self-operation : goal.returns-then-self-operation
-returns-then-self-operation g c =
-    let l = c.args.self.now in
-    record {
-      stands = c.requires.stands;
-      rows = refl;
-      latest = refl;
-      buffer = refl;
-      onward = λ a w step. step;
-      there = missing_step g.E.Effect g.T.Time g.S.Store l c.requires.stands c.requires.room c.args.operation (missing_above g.E.Effect g.T.Time g.S.Store l c.requires.stands c.args.operation c.if-self-operation.true);
-      timed = tt;
-    }
+pub returns-then-self-operation-clause-there : goal.returns-then-self-operation-clause-there
+returns-then-self-operation-clause-there g c =
+    let room = rw (← c.self.view_is) at c.requires.room in
+    rw (← c.self.view_is) (missing_step g.E.Effect g.T.Time g.S.Store _ c.self.invariant room c.args.operation (missing_above g.E.Effect g.T.Time g.S.Store _ c.self.invariant c.args.operation c.if-self-operation.true))
 
-pub returns-in_default : goal.returns-in_default
-returns-in_default g c =
-    let l = c.args.self.now in
-    record {
-      stands = c.requires.stands;
-      rows = refl;
-      latest = refl;
-      buffer = refl;
-      onward = λ a w step. step;
-      there = missing_step g.E.Effect g.T.Time g.S.Store l c.requires.stands c.requires.room c.args.operation (missing_unentered g.E.Effect g.T.Time g.S.Store l c.requires.stands c.args.operation c.index-self-operation.result c.in_default.is);
-      timed = tt;
-    }
+pub returns-in_default-clause-there : goal.returns-in_default-clause-there
+returns-in_default-clause-there g c =
+    let room = rw (← c.self.view_is) at c.requires.room in
+    let entered = ap (λ row. row.entered) (sym c.row_at.ensures) ∙ c.in_default.is in
+    rw (← c.self.view_is) (missing_step g.E.Effect g.T.Time g.S.Store _ c.self.invariant room c.args.operation (missing_unentered g.E.Effect g.T.Time g.S.Store _ c.self.invariant c.args.operation c.row_at.result entered))
 
-pub returns-then-there : goal.returns-then-there
-returns-then-there g c =
-    let l = c.args.self.now in
-    let k = kinds g.E.Effect g.T.Time in
+pub invariant_of-self-2 : goal.invariant_of-self-2
+invariant_of-self-2 g c = stands_over g.E.Effect g.T.Time g.S.Store _ c.find.new.store c.self.invariant c.find.ensures.same
+
+pub returns-clause-there : goal.returns-clause-there
+returns-clause-there g c =
     let n = c.args.operation in
-    let same = shown_over g.E.Effect g.T.Time g.S.Store l c.find.new.store c.find.ensures.same in
-    let timed = newest_timed g.E.Effect g.T.Time g.S.Store l c.requires.stands n c.in-Some.time c.index-self-operation.result c.in-Some.is in
-    let found = newest_has g.E.Effect g.T.Time g.S.Store l c.requires.stands (laws g) n c.in-Some.time c.index-self-self.result c.find.result c.in_ok-there.there timed c.in_ok-there.was c.find.ensures.found ∙ c.if-there.true in
-    record {
-      stands = stands_over g.E.Effect g.T.Time g.S.Store l c.find.new.store c.requires.stands c.find.ensures.same;
-      rows = refl;
-      latest = refl;
-      buffer = c.find.ensures.same.buffer;
-      onward = λ a w step. subst (λ v. Step k (Withdraw n) a v w) same step;
-      there = subst (λ v. has n (latest_belief v.beliefs) ≡ true) (sym same) found;
-      timed = subst (λ v. Timed n c.in-Some.time (latest_belief v.beliefs)) (sym same) timed;
-    }
+    let time = c.in-Some.time in
+    let there = c.in_ok-there.there in
+    let room = rw (← c.self.view_is) at c.requires.room in
+    let same = shown_over g.E.Effect g.T.Time g.S.Store _ c.find.new.store c.find.ensures.same in
+    let entered = ap (λ row. row.entered) (sym c.row_at.ensures) ∙ c.in-Some.is in
+    let timed = newest_timed g.E.Effect g.T.Time g.S.Store _ c.self.invariant n time c.row_at.result entered in
+    let root = ap (λ row. row.root) c.row_at-root.ensures in
+    let found = newest_has g.E.Effect g.T.Time g.S.Store _ c.self.invariant (laws g) n time c.row_at-root.result c.find.result there timed c.in_ok-there.was (rw root at c.find.ensures.found) in
+    rw (← c.self.view_is, c.then_some.ensures) (found_told g.E.Effect g.T.Time g.S.Store _ c.self.invariant room n time there _ same found)
 
-pub returns-else-there : goal.returns-else-there
-returns-else-there g c =
-    let l = c.args.self.now in
-    let k = kinds g.E.Effect g.T.Time in
+pub returns-clause-timed : goal.returns-clause-timed
+returns-clause-timed g c =
     let n = c.args.operation in
-    let same = shown_over g.E.Effect g.T.Time g.S.Store l c.find.new.store c.find.ensures.same in
-    let timed = newest_timed g.E.Effect g.T.Time g.S.Store l c.requires.stands n c.in-Some.time c.index-self-operation.result c.in-Some.is in
-    let missing = newest_has g.E.Effect g.T.Time g.S.Store l c.requires.stands (laws g) n c.in-Some.time c.index-self-self.result c.find.result c.in_ok-there.there timed c.in_ok-there.was c.find.ensures.found ∙ c.if-there.false in
-    record {
-      stands = stands_over g.E.Effect g.T.Time g.S.Store l c.find.new.store c.requires.stands c.find.ensures.same;
-      rows = refl;
-      latest = refl;
-      buffer = c.find.ensures.same.buffer;
-      onward = λ a w step. subst (λ v. Step k (Withdraw n) a v w) same step;
-      there = subst (λ w. Step k (Withdraw n) (Err (NoOperation n)) (shown g.E.Effect g.T.Time g.S.Store l) w) (sym same) (missing_step g.E.Effect g.T.Time g.S.Store l c.requires.stands c.requires.room n missing);
-      timed = tt;
-    }
+    let time = c.in-Some.time in
+    let room = rw (← c.self.view_is) at c.requires.room in
+    let same = shown_over g.E.Effect g.T.Time g.S.Store _ c.find.new.store c.find.ensures.same in
+    let entered = ap (λ row. row.entered) (sym c.row_at.ensures) ∙ c.in-Some.is in
+    let timed = newest_timed g.E.Effect g.T.Time g.S.Store _ c.self.invariant n time c.row_at.result entered in
+    rw c.then_some.ensures (found_timed g.E.Effect g.T.Time g.S.Store _ c.self.invariant room n time c.in_ok-there.there _ same timed)
