@@ -23,7 +23,7 @@ same_some x y is = cc
 
 -- an opening was found, and the record went on from there
 pub answered_open :
-    {S : Type 0} (s : store.Ghosts S) (below : S) (whole : List ℕ × Option (Opening × List Line)) (o : Opening) (left : List Line) (opened out : List ℕ) (r : Record S)
+    {S : Type 0} (s : store.Ghosts S) (below : S) (whole : List ℕ × Option (Opening × List Line)) (o : Opening) (left : List Line) (opened out : List ℕ) (r : Record s)
     → UpTo whole (Some o) left [] opened → Adds (KeptBy s o (limited (s.meaning below) o.quota) left r) opened out → AnsweredFrom s below whole r out
 answered_open s below (written, None) o left opened out r up adds = let none = up.found_is in absurd (let z : ◌≡◌ {A = ℕ} 0 1 = cc in omega arith)
 answered_open s below (written, Some (o', left')) o left opened out r up adds =

@@ -14,7 +14,7 @@ use Rattle.digits.specs.declared.line.Line.{Line}
 use Rattle.commands.specs.Frames.{forms}
 use Rattle.answers.specs.Lines as answers
 use Rattle.law.specs.Runs.{Reply, View, Run, rest, then}
-use Rattle.ledger.specs.declared.Ledger.{Ledger}
+use Rattle.ledger.specs.Accounts.{Account}
 use Rattle.ledger.specs.Shown.{shown}
 use Rattle.session.specs.Saying.{bytes_of, written, Said, remarks, flawed, asks, with_call, with_answer, said, calls_in, output}
 use Rattle.session.specs.Serving.{Hears, Served}
@@ -63,14 +63,14 @@ module _ {E P St T : Type 0} (p : payload.Ghosts E P St) (e : effect.Ghosts E St
 
   module _ {S : Type 0} (s : store.Ghosts S) where
     -- one line, whatever it says, and those after it
-    turn : (said : Said E T) (answer : Option Line) (before after : Ledger E T S) (cs : List (Call E T)) (tail : List (Reply St T) → List ℕ) (xs : List (Reply St T)) (w : View E T) → Hears e t s said answer before after → Run (kinds e t) cs xs (shown e t s after) w
+    turn : (said : Said E T) (answer : Option Line) (before after : Account T S) (cs : List (Call E T)) (tail : List (Reply St T) → List ℕ) (xs : List (Reply St T)) (w : View E T) → Hears e t s said answer before after → Run (kinds e t) cs xs (shown e t s after) w
         → (ys : List (Reply St T)) × Run (kinds e t) (with_call said cs) ys (shown e t s before) w × (with_answer (answers.shown e t) said tail ys ≡ written answer ++ tail xs)
     turn remarks answer before after cs tail xs w h run = (xs, subst (λ l. Run (kinds e t) cs xs (shown e t s l) w) h.1 run, ap (λ a. written a ++ tail xs) (sym h.0))
     turn (flawed flaw) answer before after cs tail xs w h run = (xs, subst (λ l. Run (kinds e t) cs xs (shown e t s l) w) h.1 run, ap (λ a. a ++ tail xs) (sym h.0))
     turn (asks code call) answer before after cs tail xs w h run = (h.reply ∷ xs, then h.step run, ap (λ a. a ++ tail xs) (sym h.line))
 
     -- one item more
-    pub onward_more : (all ls left : List text.Line) (i : Item) (answer : Option Line) (out so_far now_out : List ℕ) (v : View E T) (before after : Ledger E T S) → Takes ls (Some i) left → Hears e t s (said p.entered (forms p t) (held i)) answer before after → now_out ≡ so_far ++ written answer
+    pub onward_more : (all ls left : List text.Line) (i : Item) (answer : Option Line) (out so_far now_out : List ℕ) (v : View E T) (before after : Account T S) → Takes ls (Some i) left → Hears e t s (said p.entered (forms p t) (held i)) answer before after → now_out ≡ so_far ++ written answer
         → Onward all ls out so_far v (shown e t s before) → Onward all left out now_out v (shown e t s after)
     onward_more all ls left i answer out so_far now_out v before after takes hears grown h = record {
       on = λ xs w run.

@@ -16,8 +16,8 @@ use Rattle.reference.specs.Beliefs.{kinds}
 use Rattle.store.specs.Meaning.{Meaning}
 use Rattle.layers.specs.declared.quota.Quota.{Quota}
 use Rattle.layers.specs.declared.cache.Cache.{Cache}
-use Rattle.layers.specs.Quotas.{limited, quota_sound, quota_meaning, quota_buffer}
-use Rattle.layers.specs.Caches.{cache_sound, cache_meaning, cache_buffer}
+use Rattle.layers.specs.Quotas.{limited, quota_meaning, quota_buffer}
+use Rattle.layers.specs.Caches.{cache_meaning, cache_buffer}
 use Rattle.text.specs.declared.flaw.Flaw.{Flaw}
 use Rattle.text.specs.Cut.{Line, lines_from, length_checked}
 use Rattle.commands.specs.declared.command.EffectKind.TheVariants.{Counter, Settings, Status}
@@ -27,9 +27,12 @@ use Rattle.commands.specs.Frames.{forms}
 use Rattle.answers.specs.Lines as answers
 use Rattle.law.specs.Runs.{Reply}
 use Rattle.law.specs.Law.{Promise}
-use Rattle.ledger.specs.declared.Ledger.{Ledger}
-use Rattle.ledger.specs.Shown.{shown, Stands}
+use Rattle.ledger.specs.Accounts.{Account}
+use Rattle.ledger.specs.Shown.{shown}
 use Rattle.counter.specs.declared.Counter as counter
+use Rattle.counter.specs.declared.Level.{Level}
+use Rattle.settings.specs.declared.Setup.{Setup}
+use Rattle.status.specs.declared.Status.{Status as State}
 use Rattle.settings.specs.declared.Settings as setting
 use Rattle.status.specs.declared.Transitions as status
 use Rattle.times.specs.declared.clock.Clock as clock
@@ -40,13 +43,6 @@ use Rattle.session.specs.declared.ByKinds.TheVariants.{Closed, OfCounterClock, O
 use Rattle.session.specs.Saying.{line_of, calls_in, output}
 use Rattle.session.specs.Whole.{until_opening}
 
--- a session of its kinds, over a cache over its quota over a store
-abbrev pub SessionOf : Type 0 → Type 0 → Type 0 → Type 0
-SessionOf E T S = Session E T (Cache (Quota S))
-
-abbrev pub Record : Type 0 → Type 0
-Record S = ByKinds S (SessionOf counter.Counter clock.Clock S) (SessionOf counter.Counter place.Place S) (SessionOf setting.Settings clock.Clock S) (SessionOf setting.Settings place.Place S) (SessionOf status.Transitions clock.Clock S) (SessionOf status.Transitions place.Place S)
-
 -- The output `after` has something behind `before` of which P holds.
 pub record Adds (P : List ℕ → Type 0) (before after : List ℕ) : Type 0 where
   pub more : List ℕ
@@ -54,22 +50,29 @@ pub record Adds (P : List ℕ → Type 0) (before after : List ℕ) : Type 0 whe
   pub holds : P more
 
 module _ {S : Type 0} (s : store.Ghosts S) where
-  -- a cache over a quota over the store
-  abbrev pub stacked : store.Ghosts (Cache (Quota S))
-  stacked =
-      let limited : store.Ghosts (Quota S) = record { sound = quota_sound s; meaning = quota_meaning s; buffer = quota_buffer s } in
-      record { sound = cache_sound limited; meaning = cache_meaning limited; buffer = cache_buffer limited }
+  -- a quota over the store, and a cache over that
+  abbrev pub limits : store.Ghosts (Quota S)
+  limits = record { meaning = quota_meaning s; buffer = quota_buffer s }
+
+  abbrev pub stacked : store.Ghosts (Cache (Quota S) limits)
+  stacked = record { meaning = cache_meaning limits; buffer = cache_buffer limits }
+
+  -- a session over them, of effects E on states St, at times T
+  abbrev pub SessionOf : (E St T : Type 0) → Type 0
+  SessionOf E St T = Session E T (Cache (Quota S) limits) St
+
+  abbrev pub Record : Type 0
+  Record = ByKinds S (SessionOf counter.Counter Level clock.Clock) (SessionOf counter.Counter Level place.Place) (SessionOf setting.Settings Setup clock.Clock) (SessionOf setting.Settings Setup place.Place) (SessionOf status.Transitions State clock.Clock) (SessionOf status.Transitions State place.Place)
 
   -- A record opened over a store of meaning m had the lines, has this ledger now, and wrote this for them: the calls of the lines are one run
   -- of the ledger, which keeps the promise, whole, and each line is answered in order.
-  pub record Kept {E P St T : Type 0} (p : payload.Ghosts E P St) (e : effect.Ghosts E St) (t : time.Ghosts T) (m : Meaning) (lines : List Line) (ledger : Ledger E T (Cache (Quota S))) (out : List ℕ) : Type 0 where
+  pub record Kept {E P St T : Type 0} (p : payload.Ghosts E P St) (e : effect.Ghosts E St) (t : time.Ghosts T) (m : Meaning) (lines : List Line) (ledger : Account T (Cache (Quota S) limits)) (out : List ℕ) : Type 0 where
     pub replies : List (Reply St T)
-    pub stands : Stands e t stacked ledger
     pub promise : Promise (kinds e t) m (calls_in p.entered (forms p t) lines) replies (shown e t stacked ledger)
     pub written : out ≡ output p.entered (forms p t) (answers.shown e t) lines replies
 
   -- the record is open with the kinds of the opening, and was kept so
-  abbrev pub KeptBy : Opening → Meaning → List Line → Record S → List ℕ → Type 0
+  abbrev pub KeptBy : Opening → Meaning → List Line → Record → List ℕ → Type 0
   KeptBy o m lines (Closed below) out = ⊥
   KeptBy o m lines (OfCounterClock x) out = (o.effects ≡ Counter) × (o.times ≡ Clock) × Kept counter_payloads counters clocks m lines x.ledger out
   KeptBy o m lines (OfCounterPlace x) out = (o.effects ≡ Counter) × (o.times ≡ Place) × Kept counter_payloads counters places m lines x.ledger out
@@ -80,14 +83,14 @@ module _ {S : Type 0} (s : store.Ghosts S) where
 
   -- Of a record over a store: what the lines up to an opening gave is the output, and the record is not open; or the record was opened over
   -- its quota of that store, and the output goes on by what it wrote.
-  abbrev pub AnsweredFrom : S → List ℕ × Option (Opening × List Line) → Record S → List ℕ → Type 0
+  abbrev pub AnsweredFrom : S → List ℕ × Option (Opening × List Line) → Record → List ℕ → Type 0
   AnsweredFrom below (written, None) record' out = (out ≡ written) × (record' ≡ Closed below)
   AnsweredFrom below (written, Some (o, lines)) record' out = Adds (KeptBy o (limited (s.meaning below) o.quota) lines record') written out
 
   -- The whole of an input to a record over a store: where it is too long, one refusal and nothing else; else its lines in order.
-  abbrev pub AnsweredBy : S → List ℕ → Result (Unit {0}) Flaw → Record S → List ℕ → Type 0
+  abbrev pub AnsweredBy : S → List ℕ → Result (Unit {0}) Flaw → Record → List ℕ → Type 0
   AnsweredBy below input (Err flaw) record' out = (out ≡ line_of (answers.flaw_bytes flaw)) × (record' ≡ Closed below)
   AnsweredBy below input (Ok _) record' out = AnsweredFrom below (until_opening (lines_from 0 input)) record' out
 
-  abbrev pub Answered : S → List ℕ → Record S → List ℕ → Type 0
+  abbrev pub Answered : S → List ℕ → Record → List ℕ → Type 0
   Answered below input record' out = AnsweredBy below input (length_checked input) record' out

@@ -12,14 +12,14 @@ use Rattle.commands.specs.Frames.{forms}
 use Rattle.answers.specs.Lines as answers
 use Rattle.law.specs.Runs.{Reply, View, Step, Run}
 use Rattle.law.specs.Law.{Continues}
-use Rattle.ledger.specs.declared.Ledger.{Ledger}
+use Rattle.ledger.specs.Accounts.{Account}
 use Rattle.ledger.specs.Shown.{shown}
 use Rattle.session.specs.Saying.{line_of, written, Said, remarks, flawed, asks, calls_in, output}
 
 module _ {E St T S : Type 0} (e : effect.Ghosts E St) (t : time.Ghosts T) (s : store.Ghosts S) where
   -- A call under a code was carried out: one step of the ledger, answered by its reply as a line. The promise goes on with it, and
   -- where it is refused the rows of the beliefs and the store's buffer are as they were.
-  pub record Carried (code : ℕ) (call : Call E T) (answer : Option Line) (before after : Ledger E T S) : Type 0 where
+  pub record Carried (code : ℕ) (call : Call E T) (answer : Option Line) (before after : Account T S) : Type 0 where
     pub reply : Reply St T
     pub step : Step (kinds e t) call reply (shown e t s before) (shown e t s after)
     pub lawful : Continues (kinds e t) (shown e t s before) (call ∷ []) (reply ∷ []) (shown e t s after)
@@ -28,7 +28,7 @@ module _ {E St T S : Type 0} (e : effect.Ghosts E St) (t : time.Ghosts T) (s : s
     pub buffer : is_err reply ≡ true → s.buffer after.store ≡ s.buffer before.store
 
   -- What is answered to a line, and what the ledger is after it: a remark and a refused frame leave it whole as it was.
-  abbrev pub Hears : Said E T → Option Line → Ledger E T S → Ledger E T S → Type 0
+  abbrev pub Hears : Said E T → Option Line → Account T S → Account T S → Type 0
   Hears remarks answer before after = (answer ≡ None) × (after ≡ before)
   Hears (flawed flaw) answer before after = (written answer ≡ line_of (answers.flaw_bytes flaw)) × (after ≡ before)
   Hears (asks code call) answer before after = Carried code call answer before after

@@ -31,7 +31,6 @@ fn serve<E: Payload, T: Time, S: Store>(
     reader: &mut Reader,
     out: &mut Vec<u8>,
 ) -> Session<E, T, Cache<Quota<S>>>
-    requires sound { S.Store.sound store }
     requires room { vec_len out.old + 9 * length (joined_lines (unread reader.old)) ≤ vec_capacity out.old }
     ensures { Adds (Kept S.Store E.Payload.own E.Effect T.Time (limited (S.Store.meaning store) quota) (unread reader.old) result.ledger) out.old.items out.new.items }
 {
@@ -48,7 +47,6 @@ fn serve_as<S: Store>(
     reader: &mut Reader,
     out: &mut Vec<u8>,
 ) -> Record<S>
-    requires sound { S.Store.sound store }
     requires room { vec_len out.old + 9 * length (joined_lines (unread reader.old)) ≤ vec_capacity out.old }
     ensures { Adds (KeptBy S.Store opening (limited (S.Store.meaning store) opening.quota) (unread reader.old) result) out.old.items out.new.items }
 {
@@ -98,7 +96,6 @@ fn answer_lines<S: Store + Drop>(
     store: S,
     input: &[u8],
 ) -> Result<(Record<S>, Vec<u8>), AllocError>
-    requires sound { S.Store.sound store }
     requires short { length input.now ≤ 32768 }
     ensures { IfOk result (λ x. AnsweredFrom S.Store store (until_opening (lines_from 0 input.now)) x.0 x.1.items) }
 {
@@ -120,7 +117,6 @@ fn answer_checked<S: Store + Drop>(
     input: &[u8],
     checked: Result<(), Flaw>,
 ) -> Result<(Record<S>, Vec<u8>), AllocError>
-    requires sound { S.Store.sound store }
     requires checked { checked ≡ length_checked input.now }
     ensures { IfOk result (λ x. Answered S.Store store input.now x.0 x.1.items) }
 {
@@ -137,7 +133,6 @@ pub fn answer_input<S: Store + Drop>(
     store: S,
     input: &[u8],
 ) -> Result<(Record<S>, Vec<u8>), AllocError>
-    requires { S.Store.sound store }
     ensures { IfOk result (λ x. Answered S.Store store input.now x.0 x.1.items) }
 {
     answer_checked(heap, store, input, check_length(input))

@@ -2,12 +2,13 @@
 #![tactic(auto)]
 
 use counter::Counter;
+use effects::Effect;
 use layers::{Cache, Quota};
 use ledger::Ledger;
 use settings::Settings;
 use status::Transitions;
 use store::Store;
-use times::{Clock, Place};
+use times::{Clock, Place, Time};
 
 pub mod input;
 mod opening;
@@ -18,7 +19,7 @@ pub use input::answer_input;
 
 // A record that is open with effects E and times T, over the store S.
 #[derive(Drop)]
-pub struct Session<E, T, S> {
+pub struct Session<E: Effect, T: Time, S: Store> {
     ledger: Ledger<E, T, S>,
 }
 

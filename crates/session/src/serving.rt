@@ -4,7 +4,7 @@ ghost use Rattle.text.specs.Cut.{joined_lines};
 ghost use Rattle.text.specs.Seen.{held, unread};
 ghost use Rattle.commands.specs.Frames.{forms, command};
 ghost use Rattle.law.specs.Runs.{opened};
-ghost use Rattle.ledger.specs.Shown.{shown, Stands};
+ghost use Rattle.ledger.specs.Shown.{shown};
 ghost use Rattle.session.specs.Saying.{bytes_of, written, said, asked, framed};
 ghost use Rattle.session.specs.Serving.{Carried, Hears, Served};
 
@@ -24,9 +24,7 @@ use times::Time;
 impl<E: Payload, T: Time, S: Store> Session<E, T, S> {
     // A record over a store, open and with nothing entered.
     pub fn open(store: S) -> Self
-        requires { S.Store.sound store }
         ensures shown { shown E.Effect T.Time S.Store result.ledger ≡ opened (S.Store.meaning store) }
-        ensures stands { Stands E.Effect T.Time S.Store result.ledger }
     {
         Session {
             ledger: Ledger::open(store),
@@ -35,8 +33,6 @@ impl<E: Payload, T: Time, S: Store> Session<E, T, S> {
 
     // The store, with all its cells.
     pub fn close(self) -> S
-        requires { Stands E.Effect T.Time S.Store self.ledger }
-        ensures sound { S.Store.sound result }
         ensures meaning { S.Store.meaning result ≡ (shown E.Effect T.Time S.Store self.ledger).store }
     {
         let Session { ledger } = self;
@@ -45,8 +41,6 @@ impl<E: Payload, T: Time, S: Store> Session<E, T, S> {
 
     // Carries out a call under the code of its frame, and answers the line of its reply.
     fn call(&mut self, code: u8, call: Call<E, T>) -> Line
-        requires { Stands E.Effect T.Time S.Store self.old.ledger }
-        ensures stands { Stands E.Effect T.Time S.Store self.new.ledger }
         ensures carried { Carried E.Effect T.Time S.Store code call (Some result) self.old.ledger self.new.ledger }
         ensures short { length (written (Some result)) ≤ 27 }
     {
@@ -56,8 +50,6 @@ impl<E: Payload, T: Time, S: Store> Session<E, T, S> {
 
     // Does what a command asks for.
     fn obey(&mut self, command: Command<E::Form, T>) -> Line
-        requires { Stands E.Effect T.Time S.Store self.old.ledger }
-        ensures stands { Stands E.Effect T.Time S.Store self.new.ledger }
         ensures hears { Hears E.Effect T.Time S.Store (asked E.Payload.entered command) (Some result) self.old.ledger self.new.ledger }
         ensures short { length (written (Some result)) ≤ 27 }
     {
@@ -98,8 +90,6 @@ impl<E: Payload, T: Time, S: Store> Session<E, T, S> {
 
     // Answers a frame.
     fn answer_frame(&mut self, frame: &[u8]) -> Line
-        requires { Stands E.Effect T.Time S.Store self.old.ledger }
-        ensures stands { Stands E.Effect T.Time S.Store self.new.ledger }
         ensures hears { Hears E.Effect T.Time S.Store (framed E.Payload.entered (command (forms E.Payload.own T.Time) true frame.now)) (Some result) self.old.ledger self.new.ledger }
         ensures short { length (written (Some result)) ≤ 9 * (length frame.now + 1) }
     {
@@ -112,8 +102,6 @@ impl<E: Payload, T: Time, S: Store> Session<E, T, S> {
     // Answers a line of the input: a remark is not answered and changes nothing, and a frame that is refused leaves the
     // ledger and its store as they were.
     pub fn answer(&mut self, item: Item) -> Option<Line>
-        requires { Stands E.Effect T.Time S.Store self.old.ledger }
-        ensures stands { Stands E.Effect T.Time S.Store self.new.ledger }
         ensures hears { Hears E.Effect T.Time S.Store (said E.Payload.entered (forms E.Payload.own T.Time) (held item.entry)) result self.old.ledger self.new.ledger }
         ensures short { length (written result) ≤ 9 * (length (bytes_of (held item.entry)) + 1) }
     {
@@ -125,9 +113,7 @@ impl<E: Payload, T: Time, S: Store> Session<E, T, S> {
 
     // Answers all lines that are left, and appends the answers to an output that has room for them.
     pub(crate) fn answer_all(&mut self, reader: &mut Reader, out: &mut Vec<u8>)
-        requires stands { Stands E.Effect T.Time S.Store self.old.ledger }
         requires room { vec_len out.old + 9 * length (joined_lines (unread reader.old)) ≤ vec_capacity out.old }
-        ensures stands { Stands E.Effect T.Time S.Store self.new.ledger }
         ensures served { Served E.Payload.own E.Effect T.Time (unread reader.old) out.old.items out.new.items (shown E.Effect T.Time S.Store self.old.ledger) (shown E.Effect T.Time S.Store self.new.ledger) }
     {
         while let Some(item) = reader.next_item() {

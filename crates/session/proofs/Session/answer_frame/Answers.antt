@@ -10,7 +10,6 @@ returns-in-Ok g c =
     let says = c.in-Ok.ensures in
     let command = c.in-Ok.command in
     record {
-      stands = c.obey.ensures.stands;
       hears = subst (λ r. Hears g.E.Effect g.T.Time g.S.Store (framed g.E.Payload.entered r) (Some c.obey.result) c.args.self.now.ledger c.obey.new.self.ledger) says.command c.obey.ensures.hears;
       short = omega (arith, command_long (forms g.E.Payload g.T.Time) command c.args.frame.now (says.again command refl), c.obey.ensures.short);
     }

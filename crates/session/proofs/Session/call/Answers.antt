@@ -7,7 +7,6 @@ pub returns : goal.returns
 returns g c =
     let did = c.carry_out-reply.ensures in
     record {
-      stands = did.stands;
       carried = record {
         reply = c.carry_out-reply.result;
         step = did.step;
