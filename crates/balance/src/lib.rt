@@ -13,33 +13,29 @@ use tree::{Parts, Side, join, open};
 // Joins the last two of three sides, and then the first with that.
 fn nest_right<E: Effect, T: Time, S: Store>(
     store: &mut S,
-    a: Side<E>,
-    p: Operation<E, T>,
-    b: Side<E>,
-    q: Operation<E, T>,
-    c: Side<E>,
+    left: Side<E>,
+    op: Operation<E, T>,
+    last: Parts<E, T>,
 ) -> Result<Side<E>, Fault>
     ensures grew { Grew S.Store store.old store.new }
-    ensures nests { NestsRight E.Effect T.Time (S.Store.meaning store.old) (S.Store.meaning store.new) a p b q c result }
+    ensures nests { NestsRight E.Effect T.Time (S.Store.meaning store.old) (S.Store.meaning store.new) left op last.left last.op last.right result }
 {
-    let low = join(store, b, q, c)?;
-    join(store, a, p, low)
+    let right = join(store, last)?;
+    join(store, Parts { left, op, right })
 }
 
 // Joins the first two of three sides, and then that with the last.
 fn nest_left<E: Effect, T: Time, S: Store>(
     store: &mut S,
-    a: Side<E>,
-    p: Operation<E, T>,
-    b: Side<E>,
-    q: Operation<E, T>,
-    c: Side<E>,
+    first: Parts<E, T>,
+    op: Operation<E, T>,
+    right: Side<E>,
 ) -> Result<Side<E>, Fault>
     ensures grew { Grew S.Store store.old store.new }
-    ensures nests { NestsLeft E.Effect T.Time (S.Store.meaning store.old) (S.Store.meaning store.new) a p b q c result }
+    ensures nests { NestsLeft E.Effect T.Time (S.Store.meaning store.old) (S.Store.meaning store.new) first.left first.op first.right op right result }
 {
-    let low = join(store, a, p, b)?;
-    join(store, low, q, c)
+    let left = join(store, first)?;
+    join(store, Parts { left, op, right })
 }
 
 // Parts the middle of three sides, the double rotation: its root becomes the root of all.
@@ -55,64 +51,89 @@ fn part_middle<E: Effect, T: Time, S: Store>(
     ensures parts { PartsMiddle E.Effect T.Time (S.Store.meaning store.old) (S.Store.meaning store.new) a p middle q d result }
 {
     let Parts { left, op, right } = open::<E, T, S>(store, middle)?;
-    let low = join(store, a, p, left)?;
-    let high = join(store, right, q, d)?;
-    join(store, low, op, high)
+    let low = join(
+        store,
+        Parts {
+            left: a,
+            op: p,
+            right: left,
+        },
+    )?;
+    let high = join(
+        store,
+        Parts {
+            left: right,
+            op: q,
+            right: d,
+        },
+    )?;
+    join(
+        store,
+        Parts {
+            left: low,
+            op,
+            right: high,
+        },
+    )
 }
 
 // Joins two sides of which the left is higher by two.
 fn lean_left<E: Effect, T: Time, S: Store>(
     store: &mut S,
-    left: Side<E>,
-    op: Operation<E, T>,
-    right: Side<E>,
+    parts: Parts<E, T>,
 ) -> Result<Side<E>, Fault>
     ensures grew { Grew S.Store store.old store.new }
-    ensures leans { LeansLeft E.Effect T.Time (S.Store.meaning store.old) (S.Store.meaning store.new) left op right result }
+    ensures leans { LeansLeft E.Effect T.Time (S.Store.meaning store.old) (S.Store.meaning store.new) parts.left parts.op parts.right result }
 {
-    let high = open::<E, T, S>(store, left.number)?;
+    let high = open::<E, T, S>(store, parts.left.number)?;
     if high.left.height < high.right.height {
+        let Parts { op, right, .. } = parts;
         part_middle(store, high.left, high.op, high.right.number, op, right)
     } else {
-        nest_right(store, high.left, high.op, high.right, op, right)
+        let last = Parts {
+            left: high.right,
+            ..parts
+        };
+        nest_right(store, high.left, high.op, last)
     }
 }
 
 // Joins two sides of which the right is higher by two.
 fn lean_right<E: Effect, T: Time, S: Store>(
     store: &mut S,
-    left: Side<E>,
-    op: Operation<E, T>,
-    right: Side<E>,
+    parts: Parts<E, T>,
 ) -> Result<Side<E>, Fault>
     ensures grew { Grew S.Store store.old store.new }
-    ensures leans { LeansRight E.Effect T.Time (S.Store.meaning store.old) (S.Store.meaning store.new) left op right result }
+    ensures leans { LeansRight E.Effect T.Time (S.Store.meaning store.old) (S.Store.meaning store.new) parts.left parts.op parts.right result }
 {
-    let high = open::<E, T, S>(store, right.number)?;
+    let high = open::<E, T, S>(store, parts.right.number)?;
     if high.right.height < high.left.height {
+        let Parts { left, op, .. } = parts;
         part_middle(store, left, op, high.left.number, high.op, high.right)
     } else {
-        nest_left(store, left, op, high.left, high.op, high.right)
+        let first = Parts {
+            right: high.left,
+            ..parts
+        };
+        nest_left(store, first, high.op, high.right)
     }
 }
 
 // Joins two sides whose heights differ by at most two: by one new cell where they differ by at most one, else by at most three.
 pub fn balanced<E: Effect, T: Time, S: Store>(
     store: &mut S,
-    left: Side<E>,
-    op: Operation<E, T>,
-    right: Side<E>,
+    parts: Parts<E, T>,
 ) -> Result<Side<E>, Fault>
     ensures grew { Grew S.Store store.old store.new }
-    ensures near { Joins E.Effect T.Time (S.Store.meaning store.old) (S.Store.meaning store.new) left op right result }
-    ensures higher { LeansLeft E.Effect T.Time (S.Store.meaning store.old) (S.Store.meaning store.new) left op right result }
-    ensures lower { LeansRight E.Effect T.Time (S.Store.meaning store.old) (S.Store.meaning store.new) left op right result }
+    ensures near { Joins E.Effect T.Time (S.Store.meaning store.old) (S.Store.meaning store.new) parts.left parts.op parts.right result }
+    ensures higher { LeansLeft E.Effect T.Time (S.Store.meaning store.old) (S.Store.meaning store.new) parts.left parts.op parts.right result }
+    ensures lower { LeansRight E.Effect T.Time (S.Store.meaning store.old) (S.Store.meaning store.new) parts.left parts.op parts.right result }
 {
-    if left.height.saturating_sub(right.height) > 1 {
-        lean_left(store, left, op, right)
-    } else if right.height.saturating_sub(left.height) > 1 {
-        lean_right(store, left, op, right)
+    if parts.left.height.saturating_sub(parts.right.height) > 1 {
+        lean_left(store, parts)
+    } else if parts.right.height.saturating_sub(parts.left.height) > 1 {
+        lean_right(store, parts)
     } else {
-        join(store, left, op, right)
+        join(store, parts)
     }
 }

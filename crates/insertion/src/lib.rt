@@ -16,7 +16,7 @@ use order::comes_before;
 use reference::Operation;
 use store::{Fault, Store};
 use times::Time;
-use tree::{Side, join, open};
+use tree::{Parts, Side, join, open};
 
 // Inserts an operation at its place in the tree at a root.
 fn insert_from<E: Effect, T: Time, S: Store>(
@@ -31,26 +31,20 @@ fn insert_from<E: Effect, T: Time, S: Store>(
     if k == 0 {
         return join(
             store,
-            Side {
-                number: 0,
-                height: 0,
-                total: None,
-            },
-            op,
-            Side {
-                number: 0,
-                height: 0,
-                total: None,
+            Parts {
+                left: Side::none(),
+                op,
+                right: Side::none(),
             },
         );
     }
     let parts = open::<E, T, S>(store, k)?;
     if comes_before(&op, &parts.op) {
         let left = insert_from(store, parts.left.number, op)?;
-        balanced(store, left, parts.op, parts.right)
+        balanced(store, Parts { left, ..parts })
     } else {
         let right = insert_from(store, parts.right.number, op)?;
-        balanced(store, parts.left, parts.op, right)
+        balanced(store, Parts { right, ..parts })
     }
 }
 

@@ -41,7 +41,14 @@ fn take_first<E: Effect, T: Time, S: Store>(store: &mut S, k: u32) -> Result<Tak
         });
     }
     let Taken { first, rest } = take_first::<E, T, S>(store, left.number)?;
-    let joined = balanced(store, rest, op, right)?;
+    let joined = balanced(
+        store,
+        Parts {
+            left: rest,
+            op,
+            right,
+        },
+    )?;
     Ok(Taken {
         first,
         rest: joined,
@@ -62,7 +69,14 @@ fn close<E: Effect, T: Time, S: Store>(
         return Ok(left);
     }
     let Taken { first, rest } = take_first::<E, T, S>(store, right.number)?;
-    balanced(store, left, first, rest)
+    balanced(
+        store,
+        Parts {
+            left,
+            op: first,
+            right: rest,
+        },
+    )
 }
 
 // Takes the operation of the number and the time of `sought` out of the tree at a root.
@@ -76,19 +90,29 @@ fn take_out<E: Effect, T: Time, S: Store>(
     ensures takes { TakesOut E.Effect T.Time (S.Store.meaning store.old) (S.Store.meaning store.new) k sought result }
 {
     if k == 0 {
-        return Ok(Side {
-            number: 0,
-            height: 0,
-            total: None,
-        });
+        return Ok(Side::none());
     }
     let Parts { left, op, right } = open::<E, T, S>(store, k)?;
     if comes_before(&op, &sought) {
         let smaller = take_out(store, right.number, sought)?;
-        balanced(store, left, op, smaller)
+        balanced(
+            store,
+            Parts {
+                left,
+                op,
+                right: smaller,
+            },
+        )
     } else if comes_before(&sought, &op) {
         let smaller = take_out(store, left.number, sought)?;
-        balanced(store, smaller, op, right)
+        balanced(
+            store,
+            Parts {
+                left: smaller,
+                op,
+                right,
+            },
+        )
     } else {
         close::<E, T, S>(store, left, right)
     }

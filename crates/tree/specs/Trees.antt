@@ -47,6 +47,10 @@ abbrev pub total : {E T : Type 0} → (E → E → E) → Tree E T → Option E
 total composed leaf = None
 total composed (node k l o r) = Some (joined composed (total composed l) o.effect (total composed r))
 
+-- what is known where there is no tree
+abbrev pub no_side : {E : Type 0} → Side E
+no_side = record { number = 0; height = 0; total = None }
+
 module _ {E St T : Type 0} (e : effect.Ghosts E St) (t : time.Ghosts T) where
   -- what is known of a tree without reading its operations
   abbrev pub side : Tree E T → Side E

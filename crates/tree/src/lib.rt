@@ -2,7 +2,7 @@
 #![tactic(auto)]
 
 ghost use Rattle.std.specs.Prelude.{◌≡◌, ◌+◌, ◌<◌, max, Some, Ok};
-ghost use Rattle.tree.specs.Trees.{Tree, root, joined, side, cell_of, node_of, Kept};
+ghost use Rattle.tree.specs.Trees.{Tree, root, no_side, joined, side, cell_of, node_of, Kept};
 ghost use Rattle.tree.specs.Making.{Unchanged, Grew, Says, Reads, Opens, Joins};
 
 use cells::Cell;
@@ -36,6 +36,19 @@ pub struct Parts<E, T> {
     pub left: Side<E>,
     pub op: Operation<E, T>,
     pub right: Side<E>,
+}
+
+impl<E> Side<E> {
+    // The side where there is no tree.
+    pub fn none() -> Self
+        ensures { result ≡ no_side }
+    {
+        Side {
+            number: 0,
+            height: 0,
+            total: None,
+        }
+    }
 }
 
 fn compose_sides<E: Effect>(left: Option<E>, own: E, right: Option<E>) -> E
@@ -87,11 +100,7 @@ pub fn side_at<E: Effect, T: Time, S: Store>(store: &mut S, k: u32) -> Result<Si
     ensures side { (s : Tree E T) → root s ≡ k → Kept E.Effect T.Time (S.Store.meaning store.old).cells s → result ≡ Ok (side E.Effect T.Time s) }
 {
     if k == 0 {
-        return Ok(Side {
-            number: 0,
-            height: 0,
-            total: None,
-        });
+        return Ok(Side::none());
     }
     let node = read::<E, T, S>(store, k)?;
     Ok(Side {
@@ -126,17 +135,16 @@ fn height_over(left: u32, right: u32) -> u32
 // Puts the cell of an operation over two sides: the only place where a cell is made.
 fn put_over<E: Effect, T: Time, S: Store>(
     store: &mut S,
-    left: Side<E>,
-    op: Operation<E, T>,
-    right: Side<E>,
+    parts: Parts<E, T>,
     height: u32,
     total: E,
 ) -> Result<Side<E>, Fault>
-    requires over { max left.height right.height < 4294967295 → height ≡ max left.height right.height + 1 }
-    requires composed { total ≡ joined E.Effect.composed left.total op.effect right.total }
+    requires over { max parts.left.height parts.right.height < 4294967295 → height ≡ max parts.left.height parts.right.height + 1 }
+    requires composed { total ≡ joined E.Effect.composed parts.left.total parts.op.effect parts.right.total }
     ensures grew { Grew S.Store store.old store.new }
-    ensures joined { Joins E.Effect T.Time (S.Store.meaning store.old) (S.Store.meaning store.new) left op right result }
+    ensures joined { Joins E.Effect T.Time (S.Store.meaning store.old) (S.Store.meaning store.new) parts.left parts.op parts.right result }
 {
+    let Parts { left, op, right } = parts;
     let cell = Cell {
         time: op.time.to_word(),
         number: op.number,
@@ -157,14 +165,13 @@ fn put_over<E: Effect, T: Time, S: Store>(
 // Joins an operation and two sides by one new cell.
 pub fn join<E: Effect, T: Time, S: Store>(
     store: &mut S,
-    left: Side<E>,
-    op: Operation<E, T>,
-    right: Side<E>,
+    parts: Parts<E, T>,
 ) -> Result<Side<E>, Fault>
     ensures grew { Grew S.Store store.old store.new }
-    ensures joined { Joins E.Effect T.Time (S.Store.meaning store.old) (S.Store.meaning store.new) left op right result }
+    ensures joined { Joins E.Effect T.Time (S.Store.meaning store.old) (S.Store.meaning store.new) parts.left parts.op parts.right result }
 {
+    let Parts { left, op, right } = parts;
     let height = height_over(left.height, right.height);
     let total = compose_sides(left.total, op.effect, right.total);
-    put_over(store, left, op, right, height, total)
+    put_over(store, Parts { left, op, right }, height, total)
 }

@@ -9,6 +9,6 @@ returns g c =
     let mean = g.S.Store.meaning in
     record {
       grew = grew_then g.S.Store a.store.now c.join.new.store c.join-2.new.store c.join.ensures.grew c.join-2.ensures.grew;
-      nests = nest_left g.E.Effect g.T.Time (mean a.store.now) (mean c.join.new.store) (mean c.join-2.new.store) a.a a.b a.c c.in_ok-low.low a.p a.q c.join-2.result
-          c.in_ok-low.ensures.joined c.join-2.ensures.joined;
+      nests = nest_left g.E.Effect g.T.Time (mean a.store.now) (mean c.join.new.store) (mean c.join-2.new.store) a.first.left a.first.right a.right c.in_ok-left.left a.first.op a.op c.join-2.result
+          c.in_ok-left.ensures.joined c.join-2.ensures.joined;
     }

@@ -11,7 +11,7 @@ returns-then-k-eq0 g t c =
     let mean = g.S.Store.meaning in
     record {
       grew = c.join.ensures.grew;
-      inserts = insert_none g.E.Effect g.T.Time (mean a.store.now) (mean c.join.new.store) a.k _ _ a.op c.join.result c.if-k-eq0.true refl refl c.join.ensures.joined;
+      inserts = insert_none g.E.Effect g.T.Time (mean a.store.now) (mean c.join.new.store) a.k _ _ a.op c.join.result c.if-k-eq0.true c.none.ensures c.none-then-k-eq0.ensures c.join.ensures.joined;
     }
 
 pub returns-in_err-left : goal.returns-in_err-left

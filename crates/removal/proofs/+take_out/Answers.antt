@@ -10,7 +10,7 @@ returns-then-k-eq0 g t c =
     let a = c.args in
     record {
       grew = grew_still g.S.Store a.store.now;
-      takes = out_none g.E.Effect g.T.Time (g.S.Store.meaning a.store.now) a.k a.sought c.if-k-eq0.true;
+      takes = rw c.none.ensures (out_none g.E.Effect g.T.Time (g.S.Store.meaning a.store.now) a.k a.sought c.if-k-eq0.true);
     }
 
 pub returns-in_err-smaller : goal.returns-in_err-smaller

@@ -26,9 +26,9 @@ returns g c =
           let hr = height_fits g.E.Effect g.T.Time m r 4294967295 s.right_kept bounded room in
           let il = ap (λ x. x.height) s.left_is in
           let ir = ap (λ x. x.height) s.right_is in
-          let tall : c.args.height ≡ max c.args.left.height c.args.right.height + 1 = c.requires.over (omega arith) in
+          let tall : c.args.height ≡ max c.args.parts.left.height c.args.parts.right.height + 1 = c.requires.over (omega arith) in
           let after = simp (none, tall, c.requires.composed, c.to_word.ensures, c.to_words.ensures, c.to_words-2.ensures) at c.put.ensures.after in
           let answer = rw none at c.in_ok-number.ensures.answer in
           let number : c.in_ok-number.number ≡ length m.cells + 1 = cc in
-          join_made g.E.Effect g.T.Time _ _ c.args.left c.args.right l r c.args.op _ s after (simp (number, tall, c.requires.composed));
+          join_made g.E.Effect g.T.Time _ _ c.args.parts.left c.args.parts.right l r c.args.parts.op _ s after (simp (number, tall, c.requires.composed));
     }
