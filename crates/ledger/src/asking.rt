@@ -26,30 +26,6 @@ impl<E: Effect, T: Time, S: Store> Ledger<E, T, S> {
         Ok(row_at(&self.rows, belief))
     }
 
-    // The state at a time, of the operations at a root.
-    fn state_from(&mut self, root: u32, time: T) -> Result<E::State, Refusal>
-        requires tree { Standing E.Effect T.Time (S.Store.meaning self.old.store).cells root }
-        ensures answer { result ≡ Ok (state (kinds E.Effect T.Time) (read_from E.Effect T.Time (S.Store.meaning self.old.store).cells root) time) }
-        ensures same { shown E.Effect T.Time S.Store self.new ≡ shown E.Effect T.Time S.Store self.old }
-        ensures rows { self.new.rows ≡ self.old.rows }
-        ensures buffer { S.Store.buffer self.new.store ≡ S.Store.buffer self.old.store }
-    {
-        let state = state_at::<E, T, S>(&mut self.store, root, time)?;
-        Ok(state)
-    }
-
-    // The last operation not after a time, of those at a root.
-    fn latest_from(&mut self, root: u32, time: T) -> Result<Option<(u32, T)>, Refusal>
-        requires tree { Standing E.Effect T.Time (S.Store.meaning self.old.store).cells root }
-        ensures answer { result ≡ Ok (latest (kinds E.Effect T.Time) (read_from E.Effect T.Time (S.Store.meaning self.old.store).cells root) time) }
-        ensures same { shown E.Effect T.Time S.Store self.new ≡ shown E.Effect T.Time S.Store self.old }
-        ensures rows { self.new.rows ≡ self.old.rows }
-        ensures buffer { S.Store.buffer self.new.store ≡ S.Store.buffer self.old.store }
-    {
-        let found = latest_at::<E, T, S>(&mut self.store, root, time)?;
-        Ok(found)
-    }
-
     // The state at a time, as believed at a belief.
     pub fn state(&mut self, belief: u32, time: T) -> Result<E::State, Refusal>
         ensures answer { result ≡ state_of (kinds E.Effect T.Time) (shown E.Effect T.Time S.Store self.old).beliefs belief time }
@@ -58,7 +34,7 @@ impl<E: Effect, T: Time, S: Store> Ledger<E, T, S> {
         ensures buffer { S.Store.buffer self.new.store ≡ S.Store.buffer self.old.store }
     {
         let row = self.row_of(belief)?;
-        self.state_from(row.root, time)
+        Ok(state_at::<E, T, S>(&mut self.store, row.root, time)?)
     }
 
     // Number and time of the last operation not after a time, as believed at a belief, or none.
@@ -69,7 +45,7 @@ impl<E: Effect, T: Time, S: Store> Ledger<E, T, S> {
         ensures buffer { S.Store.buffer self.new.store ≡ S.Store.buffer self.old.store }
     {
         let row = self.row_of(belief)?;
-        self.latest_from(row.root, time)
+        Ok(latest_at::<E, T, S>(&mut self.store, row.root, time)?)
     }
 
     // How many operations a belief has.

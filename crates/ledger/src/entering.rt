@@ -37,8 +37,7 @@ impl<E: Effect, T: Time, S: Store> Ledger<E, T, S> {
             time,
             effect,
         };
-        let new = insert::<E, T, S>(&mut self.store, root, operation)?;
-        Ok(new)
+        Ok(insert::<E, T, S>(&mut self.store, root, operation)?)
     }
 
     // Enters an effect at a time, late or not.
@@ -50,9 +49,7 @@ impl<E: Effect, T: Time, S: Store> Ledger<E, T, S> {
         if self.newest() >= LAST_BELIEF {
             return Err(Refusal::Full);
         }
-        if let Err(fault) = self.claim(CELLS_TO_ENTER) {
-            return Err(Refusal::Store(fault));
-        }
+        self.claim(CELLS_TO_ENTER)?;
         let before = self.cells();
         let row = self.newest_row();
         let root = self.plant(row.root, time, effect)?;

@@ -74,9 +74,7 @@ impl<E: Effect, T: Time, S: Store> Ledger<E, T, S> {
         ensures earlier { take (self.old.latest + 1) self.new.rows ≡ take (self.old.latest + 1) self.old.rows }
         ensures refused { is_err result ≡ true → self.new ≡ self.old }
     {
-        if let Err(fault) = self.claim(CELLS_TO_WITHDRAW) {
-            return Err(Refusal::Store(fault));
-        }
+        self.claim(CELLS_TO_WITHDRAW)?;
         let before = self.cells();
         let row = self.newest_row();
         let root = self.uproot(row.root, operation, time)?;

@@ -28,13 +28,13 @@ invariant_of-self-2 g c =
     stands_put g.E.Effect g.T.Time g.S.Store g.met.E.Effect.back g.met.T.Time.back _ c.self.invariant c.insert.new.store made.new made.gained
 
 -- no insertion that was claimed is refused
-pub returns-in_err-new : goal.returns-in_err-new
-returns-in_err-new g c =
+pub returns-in_err-insert : goal.returns-in_err-insert
+returns-in_err-insert g c =
     let room = rw (← c.self.view_is) at c.requires.room in
     let granted = rw (← c.self.view_is) at c.requires.granted in
     let newest = rw (← c.self.view_is) at c.requires.newest in
     let made = entry_made g.E.Effect g.T.Time g.S.Store g.met.E.Effect.back g.met.T.Time.back _ c.self.invariant room c.args.root _ _ _ granted newest c.insert.ensures.claimed in
-    refused c.in_err-new.field-0.0 made.new_root (sym c.in_err-new.was ∙ made.is)
+    refused c.in_err-insert.field-0.0 made.new_root (sym c.in_err-insert.was ∙ made.is)
 
 pub returns-clause-put : goal.returns-clause-put
 returns-clause-put g c =
@@ -42,7 +42,7 @@ returns-clause-put g c =
     let granted = rw (← c.self.view_is) at c.requires.granted in
     let newest = rw (← c.self.view_is) at c.requires.newest in
     let made = entry_made g.E.Effect g.T.Time g.S.Store g.met.E.Effect.back g.met.T.Time.back _ c.self.invariant room c.args.root _ _ _ granted newest c.insert.ensures.claimed in
-    rw (← c.self.view_is) (entry_put g.E.Effect g.T.Time g.S.Store g.met.E.Effect.back g.met.T.Time.back _ c.self.invariant room c.args.time c.args.effect c.args.root c.insert.new.store c.insert.result c.in_ok-new.new granted newest made c.in_ok-new.was).0
+    rw (← c.self.view_is) (entry_put g.E.Effect g.T.Time g.S.Store g.met.E.Effect.back g.met.T.Time.back _ c.self.invariant room c.args.time c.args.effect c.args.root c.insert.new.store c.insert.result c.in_ok-insert.field-0 granted newest made c.in_ok-insert.was).0
 
 pub returns-clause-counted : goal.returns-clause-counted
 returns-clause-counted g c =
@@ -50,4 +50,4 @@ returns-clause-counted g c =
     let granted = rw (← c.self.view_is) at c.requires.granted in
     let newest = rw (← c.self.view_is) at c.requires.newest in
     let made = entry_made g.E.Effect g.T.Time g.S.Store g.met.E.Effect.back g.met.T.Time.back _ c.self.invariant room c.args.root _ _ _ granted newest c.insert.ensures.claimed in
-    rw (← c.self.view_is) (entry_put g.E.Effect g.T.Time g.S.Store g.met.E.Effect.back g.met.T.Time.back _ c.self.invariant room c.args.time c.args.effect c.args.root c.insert.new.store c.insert.result c.in_ok-new.new granted newest made c.in_ok-new.was).1
+    rw (← c.self.view_is) (entry_put g.E.Effect g.T.Time g.S.Store g.met.E.Effect.back g.met.T.Time.back _ c.self.invariant room c.args.time c.args.effect c.args.root c.insert.new.store c.insert.result c.in_ok-insert.field-0 granted newest made c.in_ok-insert.was).1
