@@ -54,7 +54,7 @@ pub(crate) fn answer_until_opening(reader: &mut Reader, out: &mut Vec<u8>) -> Op
     ensures until { UpTo (until_opening (unread reader.old)) result (unread reader.new) out.old.items out.new.items }
     ensures room { vec_len out.new + 9 * length (joined_lines (unread reader.new)) ≤ vec_capacity out.new }
 {
-    while let Some(item) = reader.next_item() {
+    while let Some(item) = reader.next() {
         let (answer, opening) = answer_closed(item);
         append(out, answer);
         if opening.is_some() {

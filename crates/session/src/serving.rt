@@ -130,7 +130,7 @@ impl<E: Payload, T: Time, S: Store> Session<E, T, S> {
         ensures stands { Stands E.Effect T.Time S.Store self.new.ledger }
         ensures served { Served E.Payload.own E.Effect T.Time (unread reader.old) out.old.items out.new.items (shown E.Effect T.Time S.Store self.old.ledger) (shown E.Effect T.Time S.Store self.new.ledger) }
     {
-        while let Some(item) = reader.next_item() {
+        while let Some(item) = reader.next() {
             let answer = self.answer(item);
             append(out, answer);
         }
