@@ -1,6 +1,5 @@
 -- How long the lines of answers are, and how long the lines are that they answer.
 use Rattle.std.proofs.Common.{◌≡◌, ℕ, ◌+◌, ◌*◌, ◌≤◌, List, [], ◌∷◌, ◌++◌, length, Some, None, Ok, Err, ap, ◌∙◌, arith, lit≤, length-append}
-use Rattle.text.specs.declared.flaw.Flaw.{Flaw}
 use Rattle.digits.specs.declared.line.Line.{Line}
 use Rattle.digits.specs.Hex.{encoded}
 use Rattle.digits.specs.Held.{line_digits}
@@ -9,7 +8,7 @@ use Rattle.calls.specs.declared.answer.Answer.TheVariants.{Changed, InState, New
 use Rattle.commands.specs.declared.command.Command.{Command}
 use Rattle.commands.specs.declared.command.Command.TheVariants.{Open, Enter, Withdraw, State, Latest, Count}
 use Rattle.commands.specs.Frames as frames
-use Rattle.answers.specs.Lines.{Shown, flaw_bytes, answer_bytes}
+use Rattle.answers.specs.Lines.{Shown, answer_bytes}
 use Rattle.law.specs.Runs.{Reply}
 use Rattle.session.specs.Saying.{line_of, written}
 
@@ -29,11 +28,6 @@ pub answer_line_short : {S T : Type 0} (k : Shown S T) (code : ℕ) (a : Reply S
 answer_line_short k code a line is =
     let same = ap (λ ds. length (ds ++ (10 ∷ []))) is in
     omega (arith, same, length_line (answer_bytes k code a), answer_short k code a)
-
-pub flaw_line_short : (flaw : Flaw) (line : Line) → line_digits line ≡ encoded (flaw_bytes flaw) → length (written (Some line)) ≤ 9
-flaw_line_short flaw line is =
-    let same = ap (λ ds. length (ds ++ (10 ∷ []))) is in
-    omega (arith, same, length_line (flaw_bytes flaw))
 
 -- a command has at least 3 bytes
 frame_long : {P T : Type 0} (f : frames.Forms P T) (c : Command P T) → 3 ≤ length (frames.frame f c)

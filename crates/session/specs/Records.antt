@@ -21,6 +21,7 @@ use Rattle.layers.specs.Caches.{cache_sound, cache_meaning, cache_buffer}
 use Rattle.text.specs.declared.flaw.Flaw.{Flaw}
 use Rattle.text.specs.Cut.{Line, lines_from, length_checked}
 use Rattle.commands.specs.declared.command.EffectKind.TheVariants.{Counter, Settings, Status}
+use Rattle.commands.specs.declared.command.TimeKind.{TimeKind}
 use Rattle.commands.specs.declared.command.TimeKind.TheVariants.{Clock, Place}
 use Rattle.commands.specs.declared.command.Opening.{Opening}
 use Rattle.commands.specs.Frames.{forms}
@@ -35,17 +36,19 @@ use Rattle.status.specs.declared.Transitions as status
 use Rattle.times.specs.declared.clock.Clock as clock
 use Rattle.times.specs.declared.place.Place as place
 use Rattle.session.specs.declared.Session.{Session}
-use Rattle.session.specs.declared.ByKinds.{ByKinds}
-use Rattle.session.specs.declared.ByKinds.TheVariants.{Closed, OfCounterClock, OfCounterPlace, OfSettingsClock, OfSettingsPlace, OfStatusClock, OfStatusPlace}
+use Rattle.session.specs.declared.OnTimes.{OnTimes}
+use Rattle.session.specs.declared.OnTimes.TheVariants as on
+use Rattle.session.specs.declared.OfEffects.{OfEffects}
+use Rattle.session.specs.declared.OfEffects.TheVariants as of
 use Rattle.session.specs.Saying.{line_of, calls_in, output}
 use Rattle.session.specs.Whole.{until_opening}
 
--- a session of its kinds, over a cache over its quota over a store
-abbrev pub SessionOf : Type 0 → Type 0 → Type 0 → Type 0
-SessionOf E T S = Session E T (Cache (Quota S))
+-- a record that is open with effects of a kind: a session over a cache over its quota over the store
+abbrev pub OpenRecord : Type 0 → Type 0 → Type 0
+OpenRecord E S = OnTimes (Session E clock.Clock (Cache (Quota S))) (Session E place.Place (Cache (Quota S)))
 
 abbrev pub Record : Type 0 → Type 0
-Record S = ByKinds S (SessionOf counter.Counter clock.Clock S) (SessionOf counter.Counter place.Place S) (SessionOf setting.Settings clock.Clock S) (SessionOf setting.Settings place.Place S) (SessionOf status.Transitions clock.Clock S) (SessionOf status.Transitions place.Place S)
+Record S = OfEffects S (OpenRecord counter.Counter S) (OpenRecord setting.Settings S) (OpenRecord status.Transitions S)
 
 -- The output `after` has something behind `before` of which P holds.
 pub record Adds (P : List ℕ → Type 0) (before after : List ℕ) : Type 0 where
@@ -68,25 +71,27 @@ module _ {S : Type 0} (s : store.Ghosts S) where
     pub promise : Promise (kinds e t) m (calls_in p.entered (forms p t) lines) replies (shown e t stacked ledger)
     pub written : out ≡ output p.entered (forms p t) (answers.shown e t) lines replies
 
+  -- the record is open with times of the kind, and was kept so
+  abbrev pub KeptOn : {E P St : Type 0} → payload.Ghosts E P St → effect.Ghosts E St → TimeKind → Meaning → List Line → OpenRecord E S → List ℕ → Type 0
+  KeptOn p e times m lines (on.Clock x) out = (times ≡ Clock) × Kept p e clocks m lines x.ledger out
+  KeptOn p e times m lines (on.Place x) out = (times ≡ Place) × Kept p e places m lines x.ledger out
+
   -- the record is open with the kinds of the opening, and was kept so
   abbrev pub KeptBy : Opening → Meaning → List Line → Record S → List ℕ → Type 0
-  KeptBy o m lines (Closed below) out = ⊥
-  KeptBy o m lines (OfCounterClock x) out = (o.effects ≡ Counter) × (o.times ≡ Clock) × Kept counter_payloads counters clocks m lines x.ledger out
-  KeptBy o m lines (OfCounterPlace x) out = (o.effects ≡ Counter) × (o.times ≡ Place) × Kept counter_payloads counters places m lines x.ledger out
-  KeptBy o m lines (OfSettingsClock x) out = (o.effects ≡ Settings) × (o.times ≡ Clock) × Kept settings_payloads settings clocks m lines x.ledger out
-  KeptBy o m lines (OfSettingsPlace x) out = (o.effects ≡ Settings) × (o.times ≡ Place) × Kept settings_payloads settings places m lines x.ledger out
-  KeptBy o m lines (OfStatusClock x) out = (o.effects ≡ Status) × (o.times ≡ Clock) × Kept event_payloads statuses clocks m lines x.ledger out
-  KeptBy o m lines (OfStatusPlace x) out = (o.effects ≡ Status) × (o.times ≡ Place) × Kept event_payloads statuses places m lines x.ledger out
+  KeptBy o m lines (of.Closed below) out = ⊥
+  KeptBy o m lines (of.Counter x) out = (o.effects ≡ Counter) × KeptOn counter_payloads counters o.times m lines x out
+  KeptBy o m lines (of.Settings x) out = (o.effects ≡ Settings) × KeptOn settings_payloads settings o.times m lines x out
+  KeptBy o m lines (of.Status x) out = (o.effects ≡ Status) × KeptOn event_payloads statuses o.times m lines x out
 
   -- Of a record over a store: what the lines up to an opening gave is the output, and the record is not open; or the record was opened over
   -- its quota of that store, and the output goes on by what it wrote.
   abbrev pub AnsweredFrom : S → List ℕ × Option (Opening × List Line) → Record S → List ℕ → Type 0
-  AnsweredFrom below (written, None) record' out = (out ≡ written) × (record' ≡ Closed below)
+  AnsweredFrom below (written, None) record' out = (out ≡ written) × (record' ≡ of.Closed below)
   AnsweredFrom below (written, Some (o, lines)) record' out = Adds (KeptBy o (limited (s.meaning below) o.quota) lines record') written out
 
   -- The whole of an input to a record over a store: where it is too long, one refusal and nothing else; else its lines in order.
   abbrev pub AnsweredBy : S → List ℕ → Result (Unit {0}) Flaw → Record S → List ℕ → Type 0
-  AnsweredBy below input (Err flaw) record' out = (out ≡ line_of (answers.flaw_bytes flaw)) × (record' ≡ Closed below)
+  AnsweredBy below input (Err flaw) record' out = (out ≡ line_of (answers.flaw_bytes flaw)) × (record' ≡ of.Closed below)
   AnsweredBy below input (Ok _) record' out = AnsweredFrom below (until_opening (lines_from 0 input)) record' out
 
   abbrev pub Answered : S → List ℕ → Record S → List ℕ → Type 0
