@@ -45,17 +45,9 @@ impl Drop for LineGuard<'_> {
         ensures end { self.exit.0.now.end ≡ self.entry.input_end }
         ensures at { self.exit.0.now.at ≡ min (self.entry.limits.now.end + 1) self.entry.input_end }
     {
-        let line_end = self.limits.end;
-        self.limits.at = if line_end < self.input_end {
-            line_end + 1
-        } else {
-            self.input_end
-        };
-        self.limits.end = self.input_end;
-        let LineGuard {
-            limits: _,
-            input_end: _,
-        } = self;
+        let LineGuard { limits, input_end } = self;
+        limits.at = limits.end.saturating_add(1).min(input_end);
+        limits.end = input_end;
     }
 }
 

@@ -1,8 +1,8 @@
-use Rattle.std.proofs.Common.{vec_items, sym, subst}
+use Rattle.std.proofs.Common.{length, vec_items, sym, ap, subst, arith}
 use Rattle.text.specs.Seen.{unread}
 use Rattle.ledger.specs.Shown.{shown}
 use Rattle.session.specs.Saying.{written}
-use Rattle.session.proofs.Turns.{none_left, behind, Onward, onward_end, onward_more}
+use Rattle.session.proofs.Turns.{took, none_left, behind, Onward, onward_end, onward_more}
 use Rattle.session.proofs.Session.answer_all.Goals as goal
 
 pub loop-item-preserved : goal.loop-item-preserved
@@ -19,6 +19,12 @@ loop-item-preserved g c =
       subst (λ ls. Onward g.E.Payload g.E.Effect g.T.Time all ls before now_out v w) (sym c.write.ensures.left)
           (onward_more g.E.Payload g.E.Effect g.T.Time g.S.Store all (unread c.loop-item.talk.reader) left c.in-Some.item c.answer.result before so_far now_out v c.loop-item.self.ledger c.answer.new.self.ledger c.in-Some.ensures.takes c.answer.ensures.hears grown c.loop-item.invariant.1),
     )
+
+pub loop-item-smaller : goal.loop-item-smaller
+loop-item-smaller g c =
+    let left = unread c.next_item.new.self.reader in
+    let found = took (unread c.loop-item.talk.reader) c.in-Some.item left c.in-Some.ensures.takes in
+    omega (arith, ap length found.1, ap length c.write.ensures.left)
 
 pub returns-clause-served : goal.returns-clause-served
 returns-clause-served g c =
