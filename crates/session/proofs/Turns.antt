@@ -45,9 +45,6 @@ module _ {E P St T : Type 0} (p : payload.Ghosts E P St) (e : effect.Ghosts E St
         (xs : List (Reply St T)) (w : View E T) → Run (kinds e t) (calls_of left) xs u w
         → (ys : List (Reply St T)) × Run (kinds e t) (calls_of all) ys v w × (before ++ output_of all ys ≡ so_far ++ output_of left xs)
 
-  pub onward_start : (all : List text.Line) (before : List ℕ) (v : View E T) → Onward all all before before v v
-  onward_start all before v = record { on = λ xs w run. (xs, run, refl) }
-
   -- where no line is left
   pub onward_end : (all left : List text.Line) (before so_far after : List ℕ) (v u : View E T) → left ≡ [] → after ≡ so_far → Onward all left before so_far v u → Served p e t all before after v u
   onward_end all left before so_far after v u none same h =

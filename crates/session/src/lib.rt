@@ -21,8 +21,8 @@ pub struct Session<E, T, S> {
     ledger: Ledger<E, T, S>,
 }
 
-// What an open record is, by the kind of its times. Here and below, what a record is when it is open are type arguments, so that
-// they stand in the signature of each function over a record, which then knows that they fit memory.
+// What an open record is, by the kind of its times.
+// The sessions are type arguments, here and below: of a plain enum over S it could not be proved that they fit memory.
 #[derive(Drop)]
 pub enum OnTimes<OnClock, OnPlace> {
     Clock(OnClock),
