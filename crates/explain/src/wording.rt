@@ -1,125 +1,149 @@
-// Flaws, openings, payloads and times in words.
-use commands::{EffectKind, Opening, TimeKind};
+// Commands, openings, payloads and times in words.
+use commands::{Command, EffectKind, Opening, TimeKind};
 use counter::Counter;
-use payloads::Payload;
 use settings::Settings;
-use status::{Event, Transitions};
-use std::alloc::{AllocError, Global};
-use text::Flaw;
-use times::{Clock, Place, Time};
+use status::Event;
+use std::fmt;
+use times::{Clock, Place};
 
-// A kind of payload that can be said in words.
-pub trait PayloadWords: Payload {
-    fn words(form: Self::Form, heap: Global) -> Result<String, AllocError>;
-}
+// A value, to be printed in words.
+#[derive(Clone, Copy)]
+pub(crate) struct Words<T>(pub(crate) T);
 
-// A kind of time that can be said in words.
-pub trait TimeWords: Time {
-    fn words(self, heap: Global) -> Result<String, AllocError>;
-}
-
-// What is wrong with a line.
-pub(crate) fn flaw_words(flaw: Flaw) -> &'static str {
-    match flaw {
-        Flaw::LongInput => "the input has more than 32768 bytes",
-        Flaw::LongLine => "more than 64 characters",
-        Flaw::NoDigit { .. } => "no digit 0 to 9 or a to f",
-        Flaw::OddLength { .. } => "an odd number of digits",
-        Flaw::BadCode => "no code, an unknown one, or one out of turn",
-        Flaw::WrongLength { .. } => "a length that is wrong for the code",
-        Flaw::NoTime { .. } => "no time of the kind",
-        Flaw::OutOfRange { .. } => "out of range",
-    }
-}
-
-// What a record is opened with.
-pub(crate) fn opening_words(heap: Global, opening: Opening) -> Result<String, AllocError> {
-    let effects = match opening.effects {
-        EffectKind::Counter => "counter",
-        EffectKind::Settings => "settings",
-        EffectKind::Status => "status",
-    };
-    let times = match opening.times {
-        TimeKind::Clock => "clock",
-        TimeKind::Place => "place",
-    };
-    let quota = opening.quota;
-    format!(in heap; "open with {effects} on {times}, quota {quota} cells")
-}
-
-// Hundredths of a gram in grams.
-fn grams(heap: Global, hundredths: u32) -> Result<String, AllocError> {
-    let whole = hundredths / 100;
-    let rest = hundredths % 100;
-    format!(in heap; "{whole}.{rest:02}")
-}
-
-fn event_name(event: Event) -> &'static str {
-    match event {
-        Event::PowerOn => "power on",
-        Event::PowerOff => "power off",
-        Event::Heat => "heat",
-        Event::Start => "start",
-        Event::Pause => "pause",
-        Event::Resume => "resume",
-        Event::EndOfJob => "end of job",
-        Event::Cooled => "cooled",
-        Event::IntoService => "into service",
-        Event::OutOfService => "out of service",
-        Event::Fault => "fault",
-    }
-}
-
-impl PayloadWords for Counter {
-    fn words(form: Counter, heap: Global) -> Result<String, AllocError> {
-        let verb = if form.amount() < 0 { "take" } else { "add" };
-        let amount = grams(heap, form.amount().unsigned_abs())?;
-        let floor = grams(heap, form.floor())?;
-        let ceiling = grams(heap, form.ceiling())?;
-        format!(in heap; "{verb} {amount} g (floor {floor}, ceiling {ceiling})")
-    }
-}
-
-impl PayloadWords for Settings {
-    fn words(form: Settings, heap: Global) -> Result<String, AllocError> {
-        let (batch, nozzle, plate, profile) = form.values().fields();
-        let mut text = String::from_str(heap, "set")?;
-        if form.mask() % 2 == 1 {
-            text.push_str(format!(in heap; " batch {batch}")?.as_str())?;
+impl<P: Copy, T: Copy> fmt::Display for Words<Command<P, T>>
+where
+    Words<P>: fmt::Display,
+    Words<T>: fmt::Display,
+{
+    fn fmt<W: fmt::Write>(&self, f: &mut fmt::Formatter<W>) -> fmt::Result {
+        match self.0 {
+            Command::Open { opening } => write!(f, "{}", Words(opening)),
+            Command::Enter { time, payload } => {
+                write!(f, "enter at {}: {}", Words(time), Words(payload))
+            }
+            Command::Withdraw { operation } => write!(f, "withdraw operation {operation}"),
+            Command::State { belief, time } => {
+                write!(f, "state at {}, as believed at {belief}", Words(time))
+            }
+            Command::Latest { belief, time } => write!(
+                f,
+                "latest operation at {}, as believed at {belief}",
+                Words(time)
+            ),
+            Command::Count { belief } => write!(f, "count of operations, as believed at {belief}"),
         }
-        if (form.mask() >> 1) % 2 == 1 {
-            text.push_str(format!(in heap; " nozzle {nozzle}")?.as_str())?;
-        }
-        if (form.mask() >> 2) % 2 == 1 {
-            text.push_str(format!(in heap; " plate {plate}")?.as_str())?;
-        }
-        if (form.mask() >> 3) % 2 == 1 {
-            text.push_str(format!(in heap; " profile {profile}")?.as_str())?;
-        }
-        if form.mask() == 0 {
-            text.push_str(" nothing")?;
-        }
-        Ok(text)
     }
 }
 
-impl PayloadWords for Transitions {
-    fn words(form: Event, heap: Global) -> Result<String, AllocError> {
-        String::from_str(heap, event_name(form))
+impl fmt::Display for Words<Opening> {
+    fn fmt<W: fmt::Write>(&self, f: &mut fmt::Formatter<W>) -> fmt::Result {
+        let Opening {
+            effects,
+            times,
+            quota,
+        } = self.0;
+        write!(
+            f,
+            "open with {} on {}, quota {quota} cells",
+            Words(effects),
+            Words(times)
+        )
     }
 }
 
-impl TimeWords for Clock {
-    fn words(self, heap: Global) -> Result<String, AllocError> {
-        let seconds = self.seconds();
-        format!(in heap; "{seconds} s")
+impl fmt::Display for Words<EffectKind> {
+    fn fmt<W: fmt::Write>(&self, f: &mut fmt::Formatter<W>) -> fmt::Result {
+        f.write_str(match self.0 {
+            EffectKind::Counter => "counter",
+            EffectKind::Settings => "settings",
+            EffectKind::Status => "status",
+        })
     }
 }
 
-impl TimeWords for Place {
-    fn words(self, heap: Global) -> Result<String, AllocError> {
-        let job = self.job();
-        let layer = self.layer();
-        format!(in heap; "job {job}, layer {layer}")
+impl fmt::Display for Words<TimeKind> {
+    fn fmt<W: fmt::Write>(&self, f: &mut fmt::Formatter<W>) -> fmt::Result {
+        f.write_str(match self.0 {
+            TimeKind::Clock => "clock",
+            TimeKind::Place => "place",
+        })
+    }
+}
+
+// Hundredths of a gram, printed in grams.
+#[derive(Clone, Copy)]
+struct Grams(u32);
+
+impl fmt::Display for Grams {
+    fn fmt<W: fmt::Write>(&self, f: &mut fmt::Formatter<W>) -> fmt::Result {
+        write!(f, "{}.{:02}", self.0 / 100, self.0 % 100)
+    }
+}
+
+impl fmt::Display for Words<Counter> {
+    fn fmt<W: fmt::Write>(&self, f: &mut fmt::Formatter<W>) -> fmt::Result {
+        let verb = if self.0.amount() < 0 { "take" } else { "add" };
+        let amount = Grams(self.0.amount().unsigned_abs());
+        let floor = Grams(self.0.floor());
+        let ceiling = Grams(self.0.ceiling());
+        write!(f, "{verb} {amount} g (floor {floor}, ceiling {ceiling})")
+    }
+}
+
+// The fields that settings overwrite, each with its value.
+fn settings_words<W: fmt::Write>(settings: Settings, f: &mut fmt::Formatter<W>) -> fmt::Result {
+    let (batch, nozzle, plate, profile) = settings.values().fields();
+    write!(f, "set")?;
+    if settings.mask() % 2 == 1 {
+        write!(f, " batch {batch}")?;
+    }
+    if (settings.mask() >> 1) % 2 == 1 {
+        write!(f, " nozzle {nozzle}")?;
+    }
+    if (settings.mask() >> 2) % 2 == 1 {
+        write!(f, " plate {plate}")?;
+    }
+    if (settings.mask() >> 3) % 2 == 1 {
+        write!(f, " profile {profile}")?;
+    }
+    if settings.mask() == 0 {
+        write!(f, " nothing")?;
+    }
+    Ok(())
+}
+
+impl fmt::Display for Words<Settings> {
+    fn fmt<W: fmt::Write>(&self, f: &mut fmt::Formatter<W>) -> fmt::Result {
+        settings_words(self.0, f)
+    }
+}
+
+impl fmt::Display for Words<Event> {
+    fn fmt<W: fmt::Write>(&self, f: &mut fmt::Formatter<W>) -> fmt::Result {
+        f.write_str(match self.0 {
+            Event::PowerOn => "power on",
+            Event::PowerOff => "power off",
+            Event::Heat => "heat",
+            Event::Start => "start",
+            Event::Pause => "pause",
+            Event::Resume => "resume",
+            Event::EndOfJob => "end of job",
+            Event::Cooled => "cooled",
+            Event::IntoService => "into service",
+            Event::OutOfService => "out of service",
+            Event::Fault => "fault",
+        })
+    }
+}
+
+impl fmt::Display for Words<Clock> {
+    fn fmt<W: fmt::Write>(&self, f: &mut fmt::Formatter<W>) -> fmt::Result {
+        write!(f, "{} s", self.0.seconds())
+    }
+}
+
+impl fmt::Display for Words<Place> {
+    fn fmt<W: fmt::Write>(&self, f: &mut fmt::Formatter<W>) -> fmt::Result {
+        write!(f, "job {}, layer {}", self.0.job(), self.0.layer())
     }
 }

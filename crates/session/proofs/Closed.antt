@@ -1,5 +1,5 @@
 -- The lines up to an opening: what those that are left give, all give behind what was written so far.
-use Rattle.std.proofs.Common.{◌≡◌, ℕ, true, false, List, [], ◌++◌, is_some, Some, None, Option, sym, refl, ap, ◌∙◌, append_assoc, append-nil, arith}
+use Rattle.std.proofs.Common.{◌≡◌, ℕ, true, false, List, ◌++◌, is_some, Some, None, Option, sym, ap, ◌∙◌, append_assoc, arith}
 use Rattle.text.specs.declared.reader.Item.{Item}
 use Rattle.text.specs.Cut.{Line}
 use Rattle.text.specs.Seen.{held, Takes}
@@ -13,9 +13,6 @@ use Rattle.digits.specs.declared.line.Line as digits
 pub record Sofar (all left : List Line) (before so_far : List ℕ) : Type 0 where
   pub written : before ++ (until_opening all).0 ≡ so_far ++ (until_opening left).0
   pub found : (until_opening all).1 ≡ (until_opening left).1
-
-pub so_far_start : (all : List Line) (before : List ℕ) → Sofar all all before before
-so_far_start all before = record { written = refl; found = refl }
 
 -- the first of the lines, by what it was heard as
 first : (ls left : List Line) (i : Item) (heard : List ℕ × Option Opening) → Takes ls (Some i) left → heard ≡ heard_closed (held i) → until_opening ls ≡ unless_opened heard (until_opening left) left
@@ -40,6 +37,3 @@ opened_here all ls left i answer (Some o) before so_far now_out takes heard some
       written = grown ∙ ap (λ x. so_far ++ x.0) (sym one) ∙ sym h.written;
       found_is = h.found ∙ ap (λ x. x.1) one;
     }
-
-pub not_opened : (all left : List Line) (before after : List ℕ) → Sofar all [] before after → UpTo (until_opening all) None left before after
-not_opened all left before after h = record { written = sym (append-nil after) ∙ sym h.written; found_is = h.found }

@@ -1,5 +1,5 @@
 -- One line more, and then the others: what the lines that are left give, the lines from the first on give behind what was written so far.
-use Rattle.std.proofs.Common.{◌≡◌, ℕ, ◌+◌, true, false, cond, List, [], ◌∷◌, ◌++◌, length, Some, None, Option, sym, refl, ap, ◌∙◌, subst, append_assoc, append-nil, arith, length-append}
+use Rattle.std.proofs.Common.{◌≡◌, ℕ, List, [], ◌∷◌, ◌++◌, Some, None, Option, sym, refl, ap, ◌∙◌, subst, append_assoc, append-nil}
 use Rattle.effects.specs.declared.Effect as effect
 use Rattle.times.specs.declared.Time as time
 use Rattle.payloads.specs.declared.payload.Payload as payload
@@ -16,7 +16,7 @@ use Rattle.answers.specs.Lines as answers
 use Rattle.law.specs.Runs.{Reply, View, Run, rest, then}
 use Rattle.ledger.specs.Accounts.{Account}
 use Rattle.ledger.specs.Shown.{shown}
-use Rattle.session.specs.Saying.{bytes_of, written, Said, remarks, flawed, asks, with_call, with_answer, said, calls_in, output}
+use Rattle.session.specs.Saying.{written, Said, remarks, flawed, asks, with_call, with_answer, said, calls_in, output}
 use Rattle.session.specs.Serving.{Hears, Served}
 
 -- the line of an item that was taken from lines
@@ -28,17 +28,9 @@ pub none_left : (ls left : List text.Line) → Takes ls None left → ls ≡ []
 none_left [] left h = refl
 none_left (l ∷ ls) left h = absurd h
 
--- the bytes of a line, whichever part it is
-part_bytes : (l : text.Line) → bytes_of (part l) ≡ l.bytes
-part_bytes l = elim (text.begins-# l.bytes) as (λ b. bytes_of (cond b (text.remark l) (text.frame l)) ≡ l.bytes) [ true ↦ refl | false ↦ refl ]
-
--- an item, its newline and the lines that are left are as long as the lines that it was taken from
-pub taken_length : (ls : List text.Line) (i : Item) (left : List text.Line) → Takes ls (Some i) left → length (joined_lines ls) ≡ length (bytes_of (held i)) + 1 + length (joined_lines left)
-taken_length ls i left h =
-    let found = took ls i left h in
-    let l = found.0 in
-    let bytes = ap length (ap bytes_of found.2 ∙ part_bytes l) in
-    omega (arith, ap (λ x. length (joined_lines x)) found.1, length-append l.bytes (10 ∷ joined_lines left), bytes)
+-- an answer is written behind what was written so far
+pub behind : (so_far answer at now_out : List ℕ) → now_out ≡ at ++ answer → at ≡ so_far → now_out ≡ so_far ++ answer
+behind so_far answer at now_out grown same = cc
 
 module _ {E P St T : Type 0} (p : payload.Ghosts E P St) (e : effect.Ghosts E St) (t : time.Ghosts T) where
   abbrev calls_of : List text.Line → List (Call E T)
@@ -53,13 +45,11 @@ module _ {E P St T : Type 0} (p : payload.Ghosts E P St) (e : effect.Ghosts E St
         (xs : List (Reply St T)) (w : View E T) → Run (kinds e t) (calls_of left) xs u w
         → (ys : List (Reply St T)) × Run (kinds e t) (calls_of all) ys v w × (before ++ output_of all ys ≡ so_far ++ output_of left xs)
 
-  pub onward_start : (all : List text.Line) (before : List ℕ) (v : View E T) → Onward all all before before v v
-  onward_start all before v = record { on = λ xs w run. (xs, run, refl) }
-
-  pub onward_end : (all : List text.Line) (before after : List ℕ) (v u : View E T) → Onward all [] before after v u → Served p e t all before after v u
-  onward_end all before after v u h =
-      let done = h.on [] u rest in
-      record { replies = done.0; run = done.1; written = sym (done.2 ∙ append-nil after) }
+  -- where no line is left
+  pub onward_end : (all left : List text.Line) (before so_far after : List ℕ) (v u : View E T) → left ≡ [] → after ≡ so_far → Onward all left before so_far v u → Served p e t all before after v u
+  onward_end all left before so_far after v u none same h =
+      let done = (subst (λ ls. Onward all ls before so_far v u) none h).on [] u rest in
+      record { replies = done.0; run = done.1; written = same ∙ sym (done.2 ∙ append-nil so_far) }
 
   module _ {S : Type 0} (s : store.Ghosts S) where
     -- one line, whatever it says, and those after it

@@ -21,6 +21,7 @@ use Rattle.layers.specs.Caches.{cache_meaning, cache_buffer}
 use Rattle.text.specs.declared.flaw.Flaw.{Flaw}
 use Rattle.text.specs.Cut.{Line, lines_from, length_checked}
 use Rattle.commands.specs.declared.command.EffectKind.TheVariants.{Counter, Settings, Status}
+use Rattle.commands.specs.declared.command.TimeKind.{TimeKind}
 use Rattle.commands.specs.declared.command.TimeKind.TheVariants.{Clock, Place}
 use Rattle.commands.specs.declared.command.Opening.{Opening}
 use Rattle.commands.specs.Frames.{forms}
@@ -38,8 +39,10 @@ use Rattle.status.specs.declared.Transitions as status
 use Rattle.times.specs.declared.clock.Clock as clock
 use Rattle.times.specs.declared.place.Place as place
 use Rattle.session.specs.declared.Session.{Session}
-use Rattle.session.specs.declared.ByKinds.{ByKinds}
-use Rattle.session.specs.declared.ByKinds.TheVariants.{Closed, OfCounterClock, OfCounterPlace, OfSettingsClock, OfSettingsPlace, OfStatusClock, OfStatusPlace}
+use Rattle.session.specs.declared.OnTimes.{OnTimes}
+use Rattle.session.specs.declared.OnTimes.TheVariants as on
+use Rattle.session.specs.declared.OfEffects.{OfEffects}
+use Rattle.session.specs.declared.OfEffects.TheVariants as of
 use Rattle.session.specs.Saying.{line_of, calls_in, output}
 use Rattle.session.specs.Whole.{until_opening}
 
@@ -57,12 +60,12 @@ module _ {S : Type 0} (s : store.Ghosts S) where
   abbrev pub stacked : store.Ghosts (Cache (Quota S) limits)
   stacked = record { meaning = cache_meaning limits; buffer = cache_buffer limits }
 
-  -- a session over them, of effects E on states St, at times T
-  abbrev pub SessionOf : (E St T : Type 0) → Type 0
-  SessionOf E St T = Session E T (Cache (Quota S) limits) St
+  -- a record that is open with effects E on states St: a session over them
+  abbrev pub OpenRecord : (E St : Type 0) → Type 0
+  OpenRecord E St = OnTimes (Session E clock.Clock (Cache (Quota S) limits) St) (Session E place.Place (Cache (Quota S) limits) St)
 
   abbrev pub Record : Type 0
-  Record = ByKinds S (SessionOf counter.Counter Level clock.Clock) (SessionOf counter.Counter Level place.Place) (SessionOf setting.Settings Setup clock.Clock) (SessionOf setting.Settings Setup place.Place) (SessionOf status.Transitions State clock.Clock) (SessionOf status.Transitions State place.Place)
+  Record = OfEffects S (OpenRecord counter.Counter Level) (OpenRecord setting.Settings Setup) (OpenRecord status.Transitions State)
 
   -- A record opened over a store of meaning m had the lines, has this ledger now, and wrote this for them: the calls of the lines are one run
   -- of the ledger, which keeps the promise, whole, and each line is answered in order.
@@ -71,25 +74,27 @@ module _ {S : Type 0} (s : store.Ghosts S) where
     pub promise : Promise (kinds e t) m (calls_in p.entered (forms p t) lines) replies (shown e t stacked ledger)
     pub written : out ≡ output p.entered (forms p t) (answers.shown e t) lines replies
 
+  -- the record is open with times of the kind, and was kept so
+  abbrev pub KeptOn : {E P St : Type 0} → payload.Ghosts E P St → effect.Ghosts E St → TimeKind → Meaning → List Line → OpenRecord E St → List ℕ → Type 0
+  KeptOn p e times m lines (on.Clock x) out = (times ≡ Clock) × Kept p e clocks m lines x.ledger out
+  KeptOn p e times m lines (on.Place x) out = (times ≡ Place) × Kept p e places m lines x.ledger out
+
   -- the record is open with the kinds of the opening, and was kept so
   abbrev pub KeptBy : Opening → Meaning → List Line → Record → List ℕ → Type 0
-  KeptBy o m lines (Closed below) out = ⊥
-  KeptBy o m lines (OfCounterClock x) out = (o.effects ≡ Counter) × (o.times ≡ Clock) × Kept counter_payloads counters clocks m lines x.ledger out
-  KeptBy o m lines (OfCounterPlace x) out = (o.effects ≡ Counter) × (o.times ≡ Place) × Kept counter_payloads counters places m lines x.ledger out
-  KeptBy o m lines (OfSettingsClock x) out = (o.effects ≡ Settings) × (o.times ≡ Clock) × Kept settings_payloads settings clocks m lines x.ledger out
-  KeptBy o m lines (OfSettingsPlace x) out = (o.effects ≡ Settings) × (o.times ≡ Place) × Kept settings_payloads settings places m lines x.ledger out
-  KeptBy o m lines (OfStatusClock x) out = (o.effects ≡ Status) × (o.times ≡ Clock) × Kept event_payloads statuses clocks m lines x.ledger out
-  KeptBy o m lines (OfStatusPlace x) out = (o.effects ≡ Status) × (o.times ≡ Place) × Kept event_payloads statuses places m lines x.ledger out
+  KeptBy o m lines (of.Closed below) out = ⊥
+  KeptBy o m lines (of.Counter x) out = (o.effects ≡ Counter) × KeptOn counter_payloads counters o.times m lines x out
+  KeptBy o m lines (of.Settings x) out = (o.effects ≡ Settings) × KeptOn settings_payloads settings o.times m lines x out
+  KeptBy o m lines (of.Status x) out = (o.effects ≡ Status) × KeptOn event_payloads statuses o.times m lines x out
 
   -- Of a record over a store: what the lines up to an opening gave is the output, and the record is not open; or the record was opened over
   -- its quota of that store, and the output goes on by what it wrote.
   abbrev pub AnsweredFrom : S → List ℕ × Option (Opening × List Line) → Record → List ℕ → Type 0
-  AnsweredFrom below (written, None) record' out = (out ≡ written) × (record' ≡ Closed below)
+  AnsweredFrom below (written, None) record' out = (out ≡ written) × (record' ≡ of.Closed below)
   AnsweredFrom below (written, Some (o, lines)) record' out = Adds (KeptBy o (limited (s.meaning below) o.quota) lines record') written out
 
   -- The whole of an input to a record over a store: where it is too long, one refusal and nothing else; else its lines in order.
   abbrev pub AnsweredBy : S → List ℕ → Result (Unit {0}) Flaw → Record → List ℕ → Type 0
-  AnsweredBy below input (Err flaw) record' out = (out ≡ line_of (answers.flaw_bytes flaw)) × (record' ≡ Closed below)
+  AnsweredBy below input (Err flaw) record' out = (out ≡ line_of (answers.flaw_bytes flaw)) × (record' ≡ of.Closed below)
   AnsweredBy below input (Ok _) record' out = AnsweredFrom below (until_opening (lines_from 0 input)) record' out
 
   abbrev pub Answered : S → List ℕ → Record → List ℕ → Type 0

@@ -1,17 +1,13 @@
 // The whole of an input, from bytes to bytes.
-ghost use Rattle.std.specs.Prelude.{◌≡◌, ◌+◌, ◌*◌, ◌≤◌, [], length, IfOk, vec_len, vec_capacity};
-ghost use Rattle.text.specs.Cut.{joined_lines, lines_from, length_checked};
+ghost use Rattle.std.specs.Prelude.{◌≡◌, [], IfOk};
 ghost use Rattle.text.specs.Seen.{unread};
 ghost use Rattle.layers.specs.Quotas.{limited};
-ghost use Rattle.answers.specs.Lines.{flaw_bytes};
-ghost use Rattle.session.specs.Saying.{line_of};
-ghost use Rattle.session.specs.Records.{Kept, KeptBy, Adds, AnsweredFrom, Answered};
+ghost use Rattle.session.specs.Records.{Kept, KeptOn, KeptBy, Adds, AnsweredFrom, Answered};
 ghost use Rattle.session.specs.Whole.{until_opening};
-ghost use Rattle.session.specs.declared.ByKinds.TheVariants.{Closed};
 
 use crate::opening::answer_until_opening;
-use crate::output::append;
-use crate::{ByKinds, Record, Session};
+use crate::talk::Talk;
+use crate::{OfEffects, OnTimes, OpenRecord, Record, Session};
 use answers::flaw_line;
 use commands::{EffectKind, Opening, TimeKind};
 use counter::Counter;
@@ -21,108 +17,52 @@ use settings::Settings;
 use status::Transitions;
 use std::alloc::{AllocError, Global};
 use store::Store;
-use text::{Flaw, Reader, check_length};
+use text::check_length;
 use times::{Clock, Place, Time};
 
-// Opens a record over a cache over a quota over a store, and answers the lines that are left.
+// Opens a record over a cache over its quota over a store, and answers the lines that are left.
 fn serve<E: Payload, T: Time, S: Store>(
+    opening: Opening,
     store: S,
-    quota: u16,
-    reader: &mut Reader,
-    out: &mut Vec<u8>,
+    talk: &mut Talk,
 ) -> Session<E, T, Cache<Quota<S>>>
-    requires room { vec_len out.old + 9 * length (joined_lines (unread reader.old)) ≤ vec_capacity out.old }
-    ensures { Adds (Kept S.Store E.Payload.own E.Effect T.Time (limited (S.Store.meaning store) quota) (unread reader.old) result.ledger) out.old.items out.new.items }
+    ensures { Adds (Kept S.Store E.Payload.own E.Effect T.Time (limited (S.Store.meaning store) opening.quota) (unread talk.old.reader) result.ledger) talk.old.out.items talk.new.out.items }
 {
-    let limited = Quota::open(store, u32::from(quota));
+    let limited = Quota::open(store, u32::from(opening.quota));
     let mut session = Session::<E, T, Cache<Quota<S>>>::open(Cache::open(limited));
-    session.answer_all(reader, out);
+    session.answer_all(talk);
     session
 }
 
-// Opens a record with the kinds of an opening, and answers the lines that are left.
-fn serve_as<S: Store>(
-    opening: Opening,
-    store: S,
-    reader: &mut Reader,
-    out: &mut Vec<u8>,
-) -> Record<S>
-    requires room { vec_len out.old + 9 * length (joined_lines (unread reader.old)) ≤ vec_capacity out.old }
-    ensures { Adds (KeptBy S.Store opening (limited (S.Store.meaning store) opening.quota) (unread reader.old) result) out.old.items out.new.items }
+// The same with the kind of time of an opening.
+fn serve_on<E: Payload, S: Store>(opening: Opening, store: S, talk: &mut Talk) -> OpenRecord<E, S>
+    ensures { Adds (KeptOn S.Store E.Payload.own E.Effect opening.times (limited (S.Store.meaning store) opening.quota) (unread talk.old.reader) result) talk.old.out.items talk.new.out.items }
 {
-    let Opening {
-        effects,
-        times,
-        quota,
-    } = opening;
-    match (effects, times) {
-        (EffectKind::Counter, TimeKind::Clock) => {
-            ByKinds::OfCounterClock(serve::<Counter, Clock, S>(store, quota, reader, out))
-        }
-        (EffectKind::Counter, TimeKind::Place) => {
-            ByKinds::OfCounterPlace(serve::<Counter, Place, S>(store, quota, reader, out))
-        }
-        (EffectKind::Settings, TimeKind::Clock) => {
-            ByKinds::OfSettingsClock(serve::<Settings, Clock, S>(store, quota, reader, out))
-        }
-        (EffectKind::Settings, TimeKind::Place) => {
-            ByKinds::OfSettingsPlace(serve::<Settings, Place, S>(store, quota, reader, out))
-        }
-        (EffectKind::Status, TimeKind::Clock) => {
-            ByKinds::OfStatusClock(serve::<Transitions, Clock, S>(store, quota, reader, out))
-        }
-        (EffectKind::Status, TimeKind::Place) => {
-            ByKinds::OfStatusPlace(serve::<Transitions, Place, S>(store, quota, reader, out))
-        }
+    match opening.times {
+        TimeKind::Clock => OnTimes::Clock(serve::<E, Clock, S>(opening, store, talk)),
+        TimeKind::Place => OnTimes::Place(serve::<E, Place, S>(opening, store, talk)),
     }
 }
 
-// The answer to an input that is refused whole.
-fn refuse_input<S: Store + Drop>(
-    heap: Global,
-    store: S,
-    flaw: Flaw,
-) -> Result<(Record<S>, Vec<u8>), AllocError>
-    ensures { IfOk result (λ x. (x.1.items ≡ line_of (flaw_bytes flaw)) × (x.0 ≡ Closed store)) }
+// The same with both kinds of an opening.
+fn serve_as<S: Store>(opening: Opening, store: S, talk: &mut Talk) -> Record<S>
+    ensures { Adds (KeptBy S.Store opening (limited (S.Store.meaning store) opening.quota) (unread talk.old.reader) result) talk.old.out.items talk.new.out.items }
 {
-    let mut out = Vec::with_capacity(heap, 9)?;
-    append(&mut out, Some(flaw_line(flaw)));
-    Ok((ByKinds::Closed(store), out))
-}
-
-// Answers the lines of an input that is not too long.
-fn answer_lines<S: Store + Drop>(
-    heap: Global,
-    store: S,
-    input: &[u8],
-) -> Result<(Record<S>, Vec<u8>), AllocError>
-    requires short { length input.now ≤ 32768 }
-    ensures { IfOk result (λ x. AnsweredFrom S.Store store (until_opening (lines_from 0 input.now)) x.0 x.1.items) }
-{
-    let mut out = Vec::with_capacity(heap, 9 * (input.len() + 1))?;
-    let mut reader = Reader::new(input);
-    match answer_until_opening(&mut reader, &mut out) {
-        Some(opening) => {
-            let record = serve_as(opening, store, &mut reader, &mut out);
-            Ok((record, out))
-        }
-        None => Ok((ByKinds::Closed(store), out)),
+    match opening.effects {
+        EffectKind::Counter => OfEffects::Counter(serve_on::<Counter, S>(opening, store, talk)),
+        EffectKind::Settings => OfEffects::Settings(serve_on::<Settings, S>(opening, store, talk)),
+        EffectKind::Status => OfEffects::Status(serve_on::<Transitions, S>(opening, store, talk)),
     }
 }
 
-// Answers an input, once it is known whether it is too long.
-fn answer_checked<S: Store + Drop>(
-    heap: Global,
-    store: S,
-    input: &[u8],
-    checked: Result<(), Flaw>,
-) -> Result<(Record<S>, Vec<u8>), AllocError>
-    requires checked { checked ≡ length_checked input.now }
-    ensures { IfOk result (λ x. Answered S.Store store input.now x.0 x.1.items) }
+// Answers all lines to a record over a store.
+fn serve_all<S: Store>(store: S, talk: &mut Talk) -> Record<S>
+    requires empty { talk.old.out.items ≡ [] }
+    ensures { AnsweredFrom S.Store store (until_opening (unread talk.old.reader)) result talk.new.out.items }
 {
-    match checked {
-        Ok(()) => answer_lines(heap, store, input),
-        Err(flaw) => refuse_input(heap, store, flaw),
+    match answer_until_opening(talk) {
+        Some(opening) => serve_as(opening, store, talk),
+        None => OfEffects::Closed(store),
     }
 }
 
@@ -135,5 +75,11 @@ pub fn answer_input<S: Store + Drop>(
 ) -> Result<(Record<S>, Vec<u8>), AllocError>
     ensures { IfOk result (λ x. Answered S.Store store input.now x.0 x.1.items) }
 {
-    answer_checked(heap, store, input, check_length(input))
+    if let Err(flaw) = check_length(input) {
+        let out = flaw_line(flaw).as_slice().to_vec(heap)?;
+        return Ok((OfEffects::Closed(store), out));
+    }
+    let mut talk = Talk::open(heap, input)?;
+    let record = serve_all(store, &mut talk);
+    Ok((record, talk.out))
 }

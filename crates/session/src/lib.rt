@@ -12,8 +12,8 @@ use times::{Clock, Place, Time};
 
 pub mod input;
 mod opening;
-mod output;
 pub mod serving;
+mod talk;
 
 pub use input::answer_input;
 
@@ -23,34 +23,32 @@ pub struct Session<E: Effect, T: Time, S: Store> {
     ledger: Ledger<E, T, S>,
 }
 
-// A record over the store S: not open yet, or open with the kinds of its opening. What it is when open are type
-// arguments, so that they stand in the signature of each function over a record, which then knows that they fit memory.
+// What an open record is, by the kind of its times.
+// The sessions are type arguments, here and below: of a plain enum over S it could not be proved that they fit memory.
 #[derive(Drop)]
-pub enum ByKinds<
-    S,
-    CounterClock,
-    CounterPlace,
-    SettingsClock,
-    SettingsPlace,
-    StatusClock,
-    StatusPlace,
-> {
-    Closed(S),
-    OfCounterClock(CounterClock),
-    OfCounterPlace(CounterPlace),
-    OfSettingsClock(SettingsClock),
-    OfSettingsPlace(SettingsPlace),
-    OfStatusClock(StatusClock),
-    OfStatusPlace(StatusPlace),
+pub enum OnTimes<OnClock, OnPlace> {
+    Clock(OnClock),
+    Place(OnPlace),
 }
 
-// When open it stands over a cache over its quota over the store.
-pub type Record<S> = ByKinds<
+// A record over the store S: not open yet, or open with effects of a kind.
+#[derive(Drop)]
+pub enum OfEffects<S, OfCounter, OfSettings, OfStatus> {
+    Closed(S),
+    Counter(OfCounter),
+    Settings(OfSettings),
+    Status(OfStatus),
+}
+
+// A record that is open with effects E stands over a cache over its quota over the store.
+pub type OpenRecord<E, S> = OnTimes<
+    Session<E, Clock, Cache<Quota<S>>>,
+    Session<E, Place, Cache<Quota<S>>>,
+>;
+
+pub type Record<S> = OfEffects<
     S,
-    Session<Counter, Clock, Cache<Quota<S>>>,
-    Session<Counter, Place, Cache<Quota<S>>>,
-    Session<Settings, Clock, Cache<Quota<S>>>,
-    Session<Settings, Place, Cache<Quota<S>>>,
-    Session<Transitions, Clock, Cache<Quota<S>>>,
-    Session<Transitions, Place, Cache<Quota<S>>>,
+    OpenRecord<Counter, S>,
+    OpenRecord<Settings, S>,
+    OpenRecord<Transitions, S>,
 >;

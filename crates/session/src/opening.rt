@@ -1,16 +1,15 @@
 // The lines of a record that is not open yet.
-ghost use Rattle.std.specs.Prelude.{◌≡◌, ◌+◌, ◌*◌, ◌≤◌, ◌++◌, length, Some, vec_len, vec_capacity};
-ghost use Rattle.text.specs.Cut.{joined_lines};
+ghost use Rattle.std.specs.Prelude.{◌≡◌, ◌+◌, ◌*◌, ◌≤◌, length, Some};
 ghost use Rattle.text.specs.Seen.{held, unread};
 ghost use Rattle.session.specs.Saying.{bytes_of, written};
 ghost use Rattle.session.specs.Whole.{opening_in, opened_by, heard_closed, until_opening, UpTo};
 
-use crate::output::append;
+use crate::talk::Talk;
 use answers::{flaw_line, opened_line};
 use commands::{Command, Opening, read};
 use counter::Counter;
 use digits::Line;
-use text::{Flaw, Item, Reader};
+use text::{Flaw, Item};
 use times::Clock;
 
 // The opening that a frame asks for, or why it asks for none. Before it nothing that has a kind is read.
@@ -48,15 +47,13 @@ fn answer_closed(item: Item) -> (Option<Line>, Option<Opening>)
     }
 }
 
-// Answers the lines up to an accepted opening, and appends the answers to an output that has room for them.
-pub(crate) fn answer_until_opening(reader: &mut Reader, out: &mut Vec<u8>) -> Option<Opening>
-    requires { vec_len out.old + 9 * length (joined_lines (unread reader.old)) ≤ vec_capacity out.old }
-    ensures until { UpTo (until_opening (unread reader.old)) result (unread reader.new) out.old.items out.new.items }
-    ensures room { vec_len out.new + 9 * length (joined_lines (unread reader.new)) ≤ vec_capacity out.new }
+// Answers the lines up to an accepted opening.
+pub(crate) fn answer_until_opening(talk: &mut Talk) -> Option<Opening>
+    ensures { UpTo (until_opening (unread talk.old.reader)) result (unread talk.new.reader) talk.old.out.items talk.new.out.items }
 {
-    while let Some(item) = reader.next_item() {
+    while let Some(item) = talk.next_item() {
         let (answer, opening) = answer_closed(item);
-        append(out, answer);
+        talk.write(answer);
         if opening.is_some() {
             return opening;
         }

@@ -1,6 +1,5 @@
 // The lines of an open record.
-ghost use Rattle.std.specs.Prelude.{◌≡◌, ◌+◌, ◌*◌, ◌≤◌, true, length, Some, vec_len, vec_capacity};
-ghost use Rattle.text.specs.Cut.{joined_lines};
+ghost use Rattle.std.specs.Prelude.{◌≡◌, ◌+◌, ◌*◌, ◌≤◌, true, length, Some};
 ghost use Rattle.text.specs.Seen.{held, unread};
 ghost use Rattle.commands.specs.Frames.{forms, command};
 ghost use Rattle.law.specs.Runs.{opened};
@@ -9,7 +8,7 @@ ghost use Rattle.session.specs.Saying.{bytes_of, written, said, asked, framed};
 ghost use Rattle.session.specs.Serving.{Carried, Hears, Served};
 
 use crate::Session;
-use crate::output::append;
+use crate::talk::Talk;
 use answers::{answer_line, flaw_line};
 use calls::Call;
 use commands::{Command, read};
@@ -18,7 +17,7 @@ use ledger::Ledger;
 use payloads::Payload;
 use runs::carry_out;
 use store::Store;
-use text::{Flaw, Item, Reader};
+use text::{Flaw, Item};
 use times::Time;
 
 impl<E: Payload, T: Time, S: Store> Session<E, T, S> {
@@ -111,14 +110,12 @@ impl<E: Payload, T: Time, S: Store> Session<E, T, S> {
         }
     }
 
-    // Answers all lines that are left, and appends the answers to an output that has room for them.
-    pub(crate) fn answer_all(&mut self, reader: &mut Reader, out: &mut Vec<u8>)
-        requires room { vec_len out.old + 9 * length (joined_lines (unread reader.old)) ≤ vec_capacity out.old }
-        ensures served { Served E.Payload.own E.Effect T.Time (unread reader.old) out.old.items out.new.items (shown E.Effect T.Time S.Store self.old.ledger) (shown E.Effect T.Time S.Store self.new.ledger) }
+    // Answers all lines that are left.
+    pub(crate) fn answer_all(&mut self, talk: &mut Talk)
+        ensures { Served E.Payload.own E.Effect T.Time (unread talk.old.reader) talk.old.out.items talk.new.out.items (shown E.Effect T.Time S.Store self.old.ledger) (shown E.Effect T.Time S.Store self.new.ledger) }
     {
-        while let Some(item) = reader.next_item() {
-            let answer = self.answer(item);
-            append(out, answer);
+        while let Some(item) = talk.next_item() {
+            talk.write(self.answer(item));
         }
     }
 }

@@ -1,5 +1,6 @@
 -- The lines of an input.
 use Rattle.std.specs.Prelude.{◌≡◌, ℕ, ◌+◌, Bool, false, cond, ◌⊎◌, List, [], ◌∷◌, ◌++◌, length, Ok, Err, Result, ◌==◌, ◌≢◌, nat_lt}
+use Rattle.std.specs.List.{position_or_len}
 use Rattle.text.specs.declared.flaw.Flaw.{Flaw}
 use Rattle.text.specs.declared.flaw.Flaw.TheVariants.{LongInput}
 
@@ -17,6 +18,10 @@ widened p b (l ∷ ls) = record { place = p; bytes = b ∷ l.bytes } ∷ ls
 abbrev pub lines_from : ℕ → List ℕ → List Line
 lines_from p [] = []
 lines_from p (b ∷ bs) = cond (b == 10) (record { place = p; bytes = [] } ∷ lines_from (p + 1) bs) (widened p b (lines_from (p + 1) bs))
+
+-- how many bytes stand before the first newline, or all where there is none
+abbrev pub line_length : List ℕ → ℕ
+line_length bs = position_or_len (λ b. b == 10) bs
 
 -- an input has at most 32,768 bytes
 abbrev pub length_checked : List ℕ → Result (Unit {0}) Flaw

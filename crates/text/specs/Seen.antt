@@ -1,5 +1,6 @@
 -- What a reader has yet to read, and what an item holds.
-use Rattle.std.specs.Prelude.{◌≡◌, List, [], ◌∷◌, drop, Some, None, Option}
+use Rattle.std.specs.Prelude.{◌≡◌, ℕ, List, [], ◌∷◌, drop, Some, None, Option}
+use Rattle.std.specs.Borrow.{Bor}
 use Rattle.text.specs.declared.reader.Item.{Item}
 use Rattle.text.specs.declared.reader.Item.TheVariants.{Remark, Frame}
 use Rattle.text.specs.declared.reader.Reader.{Reader}
@@ -19,3 +20,8 @@ Takes [] None rest = rest ≡ []
 Takes [] (Some i) rest = ⊥
 Takes (l ∷ ls) None rest = ⊥
 Takes (l ∷ ls) (Some i) rest = (held i ≡ part l) × (rest ≡ ls)
+
+-- the place and the bytes are those of the first of the lines, and rest are the others; None where there is none
+abbrev pub Cuts : List Line → Option (ℕ × Bor (List ℕ)) → List Line → Type 0
+Cuts ls None rest = (ls ≡ []) × (rest ≡ [])
+Cuts ls (Some (place, text)) rest = ls ≡ record { place = place; bytes = text.now } ∷ rest

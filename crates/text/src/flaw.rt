@@ -2,6 +2,8 @@
 ghost use Rattle.std.specs.Prelude.{◌≡◌};
 ghost use Rattle.text.specs.Flaws.{number_and_place, code_of};
 
+use std::fmt;
+
 // What is wrong with an input or a line, in the order in which it is looked for. Places and lengths count characters;
 // a flaw that is found after the code holds the code.
 #[derive(Clone, Copy)]
@@ -51,5 +53,26 @@ impl Flaw {
             | Flaw::OutOfRange { code, .. } => code,
             _ => 0,
         }
+    }
+}
+
+impl fmt::Display for Flaw {
+    ghost use Rattle.std.specs.Prelude.{Some};
+    ghost use Rattle.text.specs.Flaws.{words_of};
+
+    // what is wrong, in words
+    ghost output = { λ flaw. Some (words_of flaw) };
+
+    fn fmt<W: fmt::Write>(&self, f: &mut fmt::Formatter<W>) -> fmt::Result {
+        f.write_str(match self {
+            Flaw::LongInput => "the input has more than 32768 bytes",
+            Flaw::LongLine => "more than 64 characters",
+            Flaw::NoDigit { .. } => "no digit 0 to 9 or a to f",
+            Flaw::OddLength { .. } => "an odd number of digits",
+            Flaw::BadCode => "no code, an unknown one, or one out of turn",
+            Flaw::WrongLength { .. } => "a length that is wrong for the code",
+            Flaw::NoTime { .. } => "no time of the kind",
+            Flaw::OutOfRange { .. } => "out of range",
+        })
     }
 }

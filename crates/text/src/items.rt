@@ -1,7 +1,7 @@
 // Taking the lines of an input, one after the other.
-ghost use Rattle.std.specs.Prelude.{◌≡◌, ℕ, ◌+◌, ◌<◌, ◌≤◌, min, length, ◌≢◌, nat_le, slice_index};
-ghost use Rattle.text.specs.Cut.{lines_from, length_checked, begins-#, Whole};
-ghost use Rattle.text.specs.Seen.{unread, Takes};
+ghost use Rattle.std.specs.Prelude.{◌≡◌, ◌+◌, ◌≤◌, min, length, drop, position, ◌==◌, nat_le};
+ghost use Rattle.text.specs.Cut.{lines_from, line_length, length_checked, part, Whole};
+ghost use Rattle.text.specs.Seen.{unread, held, Takes, Cuts};
 ghost use Rattle.std.specs.Iterator.{at_most};
 
 use crate::flaw::Flaw;
@@ -45,42 +45,39 @@ impl Drop for LineGuard<'_> {
         ensures end { self.exit.0.now.end ≡ self.entry.input_end }
         ensures at { self.exit.0.now.at ≡ min (self.entry.limits.now.end + 1) self.entry.input_end }
     {
-        let line_end = self.limits.end;
-        self.limits.at = if line_end < self.input_end {
-            line_end + 1
-        } else {
-            self.input_end
-        };
-        self.limits.end = self.input_end;
-        let LineGuard {
-            limits: _,
-            input_end: _,
-        } = self;
+        let LineGuard { limits, input_end } = self;
+        limits.at = limits.end.saturating_add(1).min(input_end);
+        limits.end = input_end;
     }
+}
+
+// Where the first newline stands, if there is one.
+fn first_newline(bytes: &[u8]) -> Option<usize>
+    ensures { result ≡ position (λ b. b == 10) bytes.now }
+{
+    bytes.iter().position(|byte| *byte == b'\n')
 }
 
 // Where the line that begins at `at` ends: at the next newline, or at the end of the input.
 fn line_end(input: &[u8], at: usize) -> usize
     requires { at ≤ length input.now }
-    ensures low { at ≤ result }
-    ensures high { result ≤ length input.now }
-    ensures inside { (k : ℕ) → at ≤ k → k < result → slice_index input.now k ≢ 10 }
-    ensures stops { result < length input.now → slice_index input.now result ≡ 10 }
+    ensures line { result ≡ at + line_length (drop at input.now) }
+    ensures within { result ≤ length input.now }
 {
-    let mut end = at;
-    while end < input.len() && input[end] != b'\n' {
-        end += 1;
+    match first_newline(&input[at..]) {
+        Some(length) => at + length,
+        None => input.len(),
     }
-    end
 }
 
-// Whether a line is a remark.
-fn is_remark(text: &[u8]) -> bool
-    ensures { result ≡ begins-# text.now }
+// A line at its place, as the remark or the frame that it is.
+fn item_of(place: usize, text: &[u8]) -> Item<'_>
+    ensures { held result ≡ part (record { place = place; bytes = text.now }) }
 {
-    match text {
-        [b'#', ..] => true,
-        _ => false,
+    if text.starts_with(b"#") {
+        Item::Remark { place, text }
+    } else {
+        Item::Frame { place, text }
     }
 }
 
@@ -116,9 +113,9 @@ impl<'a> Reader<'a> {
         self.limits.at >= self.input.len()
     }
 
-    // The next line, as the remark or the frame that it is, or None where no line is left.
-    pub fn next_item(&mut self) -> Option<Item<'a>>
-        ensures { Takes (unread self.old) result (unread self.new) }
+    // The next line and its place, where one is left.
+    fn next_line(&mut self) -> Option<(usize, &'a [u8])>
+        ensures { Cuts (unread self.old) result (unread self.new) }
     {
         if self.at_end() {
             return None;
@@ -126,14 +123,11 @@ impl<'a> Reader<'a> {
         let input = self.input;
         let place = self.limits.at;
         let guard = LineGuard::narrow(&mut self.limits, line_end(input, place));
-        let text = &input[guard.limits.at..guard.limits.end];
-        if is_remark(text) {
-            return Some(Item::Remark { place, text });
-        }
-        Some(Item::Frame { place, text })
+        Some((place, &input[guard.limits.at..guard.limits.end]))
     }
 }
 
+// Each item is the next line, as the remark or the frame that it is.
 impl<'a> Iterator for Reader<'a> {
     type Item = Item<'a>;
 
@@ -142,6 +136,7 @@ impl<'a> Iterator for Reader<'a> {
     ghost remaining = { λ s. at_most (length (unread s)) };
 
     fn next(&mut self) -> Option<Item<'a>> {
-        self.next_item()
+        let (place, text) = self.next_line()?;
+        Some(item_of(place, text))
     }
 }

@@ -1,10 +1,9 @@
-use Rattle.std.proofs.Common.{drop, sym, ap, subst}
+use Rattle.std.proofs.Common.{drop, sym, subst}
 use Rattle.text.specs.Cut.{lines_from, Whole}
 use Rattle.text.proofs.Rejoining.{lines_whole}
 use Rattle.text.proofs.reader.Reader.new.Goals as goal
 
-pub returns : goal.returns
-returns c =
+pub returns-clause-whole : goal.returns-clause-whole
+returns-clause-whole c =
     let bs = c.args.input.now in
-    let lines = ap (λ n. lines_from n (drop n bs)) c.of.ensures.at in
-    record { lines = lines; whole = subst (Whole bs) (sym lines) (lines_whole bs) }
+    subst (λ at. Whole bs (lines_from at (drop at bs))) (sym c.of.ensures.at) (lines_whole bs)
