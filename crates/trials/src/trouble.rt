@@ -13,6 +13,7 @@ pub enum Trouble {
     Differs,
 }
 
+// Conversions by hand: a derived one keeps what it converts, and a store's fault has no Debug that could show it.
 impl From<AllocError> for Trouble {
     ghost from_gives = { λ _ _. Unit {0} };
 
