@@ -57,58 +57,71 @@ mod tests {
         ("220004", "22000002"),
     ];
 
-    // Lines and their answers, joined: each ends with a newline, and no answer is no line.
-    fn join(
-        lines: &[(&str, &str)],
-        input: &mut Vec<u8>,
-        expected: &mut Vec<u8>,
-    ) -> Result<(), AllocError> {
-        for (line, answer) in lines {
-            input.extend_from_slice(line.as_bytes())?;
-            input.push(b'\n')?;
-            if !answer.is_empty() {
-                expected.extend_from_slice(answer.as_bytes())?;
-                expected.push(b'\n')?;
+    // Lines and their answers, joined: an input and the output that is expected.
+    #[derive(Drop)]
+    struct Script {
+        input: Vec<u8>,
+        expected: Vec<u8>,
+    }
+
+    impl Script {
+        fn new(heap: Global) -> Script {
+            Script {
+                input: Vec::new(heap),
+                expected: Vec::new(heap),
             }
         }
-        Ok(())
+
+        // Each line ends with a newline, and no answer is no line: a `Some` around each answer, for the one remark that has
+        // none, would be no plainer.
+        fn add(&mut self, lines: &[(&str, &str)]) -> Result<(), AllocError> {
+            for (line, answer) in lines {
+                self.input.extend_from_slice(line.as_bytes())?;
+                self.input.push(b'\n')?;
+                if !answer.is_empty() {
+                    self.expected.extend_from_slice(answer.as_bytes())?;
+                    self.expected.push(b'\n')?;
+                }
+            }
+            Ok(())
+        }
+
+        fn check(&self, rt: &(impl Abort + AllocGlobal), bytes: usize) -> Result<(), Fail> {
+            writes(rt, bytes, self.input.as_slice(), self.expected.as_slice())
+        }
     }
 
     // A record over an image of so many bytes answers the input so.
     fn writes(
-        rt: &impl Abort,
-        heap: Global,
+        rt: &(impl Abort + AllocGlobal),
         bytes: usize,
         input: &[u8],
         expected: &[u8],
     ) -> Result<(), Fail> {
-        let image = Image::open(vec![in heap; 0u8; bytes]?);
-        let (_record, output) = answer_input(heap, image, input)?;
+        let image = Image::open(vec![in rt.alloc(); 0u8; bytes]?);
+        let (_record, output) = answer_input(rt.alloc(), image, input)?;
         assert!(rt; output.as_slice() == expected);
         Ok(())
     }
 
     // The same of lines and their answers.
     fn answers(
-        rt: &impl Abort,
-        heap: Global,
+        rt: &(impl Abort + AllocGlobal),
         bytes: usize,
         lines: &[(&str, &str)],
     ) -> Result<(), Fail> {
-        let mut input = Vec::new(heap);
-        let mut expected = Vec::new(heap);
-        join(lines, &mut input, &mut expected)?;
-        writes(rt, heap, bytes, input.as_slice(), expected.as_slice())
+        let mut script = Script::new(rt.alloc());
+        script.add(lines)?;
+        script.check(rt, bytes)
     }
 
     // The same of a whole session over 800 cells: lines before the opening, those of a kind, and those of every kind.
-    fn session(rt: &impl Abort, heap: Global, lines: &[(&str, &str)]) -> Result<(), Fail> {
-        let mut input = Vec::new(heap);
-        let mut expected = Vec::new(heap);
-        join(&CLOSED, &mut input, &mut expected)?;
-        join(lines, &mut input, &mut expected)?;
-        join(&OPEN, &mut input, &mut expected)?;
-        writes(rt, heap, 44_800, input.as_slice(), expected.as_slice())
+    fn session(rt: &(impl Abort + AllocGlobal), lines: &[(&str, &str)]) -> Result<(), Fail> {
+        let mut script = Script::new(rt.alloc());
+        script.add(&CLOSED)?;
+        script.add(lines)?;
+        script.add(&OPEN)?;
+        script.check(rt, 44_800)
     }
 
     // Set 100,000 at 10, take 90,000 at 30 and, late, take 30,000 at 20; then without the 90,000.
@@ -138,7 +151,7 @@ mod tests {
             ("10000000000000000a000000000000000800000007", "10170012"),
             ("10000000000000000a0000000000000000000f42", "10150028"),
         ];
-        session(&rt, rt.alloc(), &lines)
+        session(&rt, &lines)
     }
 
     // Set 50 and take 20, both at job 5 layer 0, and late, add 1,000 on the raft, at layer -1; then without the 20.
@@ -164,7 +177,7 @@ mod tests {
             ("1000000005000000000000000000000000000f4241", "10170012"),
             ("1000000005000000000000000000000000000f424000", "1015002c"),
         ];
-        session(&rt, rt.alloc(), &lines)
+        session(&rt, &lines)
     }
 
     // {batch: 7} and {batch: 9, nozzle: 4}, both at 8, and late, {nozzle: 1, profile: ffff} at 5; then without the second.
@@ -194,7 +207,7 @@ mod tests {
             ("100000000000000008050007", "10150018"),
             ("100000000000000008", "10150012"),
         ];
-        session(&rt, rt.alloc(), &lines)
+        session(&rt, &lines)
     }
 
     // {plate: ab, profile: 1} at job 1 layer 2, then at the lowest layer of job 1 {batch: 1234, plate: 3, profile: ffff}, and all
@@ -221,7 +234,7 @@ mod tests {
             ("10000000010000000210", "10170012"),
             ("1000000001000000020f000100020003", "10150020"),
         ];
-        session(&rt, rt.alloc(), &lines)
+        session(&rt, &lines)
     }
 
     // Power on at 10, out of service at 20 and, late, into service at 15; then without the second.
@@ -249,7 +262,7 @@ mod tests {
             ("10000000000000000a0c", "10170012"),
             ("10000000000000000a0101", "10150016"),
         ];
-        session(&rt, rt.alloc(), &lines)
+        session(&rt, &lines)
     }
 
     // Heat and start, both at job 5 layer 1, and late, power on on the raft, at layer -1; then without the start.
@@ -275,7 +288,7 @@ mod tests {
             ("100000000500000001ff", "10170012"),
             ("100000000500000001", "10150012"),
         ];
-        session(&rt, rt.alloc(), &lines)
+        session(&rt, &lines)
     }
 
     // The first entry takes one cell. So a quota of 42 (2a) has 41 (29) left for the next change, whatever the kinds;
@@ -300,14 +313,14 @@ mod tests {
                 ("220001", "22000001"),
                 ("220002", "22210002"),
             ];
-            answers(&rt, rt.alloc(), 44_800, &lines)?;
+            answers(&rt, 44_800, &lines)?;
         }
         let lines = [
             ("0103010000", "0100"),
             ("1000000000000000050b", "10310000"),
             ("220000", "22000000"),
         ];
-        answers(&rt, rt.alloc(), 44_800, &lines)
+        answers(&rt, 44_800, &lines)
     }
 
     // 2,352 bytes are 42 cells, and one byte less has room for 41 (29). The allowance comes before the space.
@@ -319,7 +332,7 @@ mod tests {
             ("110001", "11220001"),
             ("2100000000000000000005", "210000"),
         ];
-        answers(&rt, rt.alloc(), 2_351, &lines)?;
+        answers(&rt, 2_351, &lines)?;
         let lines = [
             ("010301ffff", "0100"),
             ("1000000000000000050b", "10000001"),
@@ -327,9 +340,9 @@ mod tests {
             ("110001", "11320029"),
             ("2100010000000000000005", "21000100010000000000000005"),
         ];
-        answers(&rt, rt.alloc(), 2_352, &lines)?;
+        answers(&rt, 2_352, &lines)?;
         let lines = [("0103010028", "0100"), ("1000000000000000050b", "10310028")];
-        answers(&rt, rt.alloc(), 2_351, &lines)
+        answers(&rt, 2_351, &lines)
     }
 
     // One entry after another, each but the last withdrawn again: 512 entries and 511 withdrawals make belief 1,023, the last.
@@ -337,9 +350,8 @@ mod tests {
     #[test]
     fn beliefs(rt: HostRuntime) -> Result<(), Fail> {
         let heap = rt.alloc();
-        let mut input = Vec::new(heap);
-        let mut expected = Vec::new(heap);
-        join(&[("010301ffff", "0100")], &mut input, &mut expected)?;
+        let mut script = Script::new(heap);
+        script.add(&[("010301ffff", "0100")])?;
         for half in 0u16..511 {
             let number = 2 * half + 1;
             let next = number + 1;
@@ -350,7 +362,7 @@ mod tests {
                 ("10000000000000000501", entered.as_str()),
                 (withdrawal.as_str(), withdrawn.as_str()),
             ];
-            join(&lines, &mut input, &mut expected)?;
+            script.add(&lines)?;
         }
         let lines = [
             ("10000000000000000501", "100003ff"),
@@ -364,8 +376,8 @@ mod tests {
             ("2104000000000000000005", "21210400"),
             ("2203ff", "22000001"),
         ];
-        join(&lines, &mut input, &mut expected)?;
-        writes(&rt, heap, 56 * 2_087, input.as_slice(), expected.as_slice())
+        script.add(&lines)?;
+        script.check(&rt, 56 * 2_087)
     }
 
     // A remark and an opening without its newline, which are 32,768 bytes, and the same with one byte more.
@@ -374,8 +386,8 @@ mod tests {
         let heap = rt.alloc();
         let mut input = vec![in heap; b'#'; 32_757]?;
         input.extend_from_slice(b"\n0101010320")?;
-        writes(&rt, heap, 0, input.as_slice(), b"0100\n")?;
+        writes(&rt, 0, input.as_slice(), b"0100\n")?;
         input.push(b'\n')?;
-        writes(&rt, heap, 0, input.as_slice(), b"00188000\n")
+        writes(&rt, 0, input.as_slice(), b"00188000\n")
     }
 }
