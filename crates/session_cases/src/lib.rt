@@ -352,8 +352,7 @@ mod tests {
         let heap = rt.alloc();
         let mut script = Script::new(heap);
         script.add(&[("010301ffff", "0100")])?;
-        for half in 0u16..511 {
-            let number = 2 * half + 1;
+        for number in (1u16..1_023).step_by(2) {
             let next = number + 1;
             let withdrawal = format!(in heap; "11{number:04x}")?;
             let entered = format!(in heap; "1000{number:04x}")?;
