@@ -83,6 +83,7 @@ fn read_calls<E: Effect, T: Time>(
     ensures { IfOk result (λ calls. calls.items ≡ calls_in E.Effect T.Time asked.now) }
 {
     let mut calls = Vec::with_capacity(heap, asked.len())?;
+    // tried with `map_while` and `collect`: no proof, since std has no lemma on `map_while`
     for numbers in asked {
         let Some(call) = read_call::<E, T>(*numbers) else {
             break;
