@@ -1,5 +1,5 @@
 // A plain list of operations, which the trials compare a tree with.
-ghost use Rattle.std.specs.Prelude.{◌≤◌, length};
+ghost use Rattle.std.specs.Prelude.{◌≤◌, length, vec_len};
 
 use counter::{Counter, Level};
 use effects::Effect;
@@ -24,9 +24,21 @@ impl Plain {
         self.ops.as_slice()
     }
 
+    // The operations that are not after a time: those before the first of a later one.
+    pub(crate) fn until(&self, at: Clock) -> &[Operation<Counter, Clock>]
+        ensures { length result.now ≤ vec_len self.now.ops }
+    {
+        let later = self
+            .ops
+            .iter()
+            .position(|op| at.seconds() < op.time.seconds());
+        let end = later.unwrap_or(self.ops.len());
+        &self.ops.as_slice()[..end]
+    }
+
     // Puts an operation before the first of a later time.
     pub(crate) fn enter(&mut self, op: Operation<Counter, Clock>) -> Result<(), AllocError> {
-        let place = until(self.ops.as_slice(), op.time).len();
+        let place = self.until(op.time).len();
         self.ops.insert(place, op)?;
         Ok(())
     }
@@ -40,17 +52,6 @@ impl Plain {
     pub(crate) fn has(&self, number: u32) -> bool {
         self.ops.iter().any(|op| op.number == number)
     }
-}
-
-// The operations that are not after a time: those before the first of a later one.
-pub(crate) fn until(ops: &[Operation<Counter, Clock>], at: Clock) -> &[Operation<Counter, Clock>]
-    ensures { length result.now ≤ length ops.now }
-{
-    let end = ops
-        .iter()
-        .position(|op| at.seconds() < op.time.seconds())
-        .unwrap_or(ops.len());
-    &ops[..end]
 }
 
 // The start state carried through the operations.

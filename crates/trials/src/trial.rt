@@ -6,7 +6,7 @@ ghost use Rattle.trials.specs.Versions.{Newest};
 
 use super::compare::compare;
 use super::counting::Counts;
-use super::plain::{Plain, replay, until};
+use super::plain::{Plain, replay};
 use super::trouble::{Trouble, same};
 use super::versions::{enter, withdraw};
 use counter::Counter;
@@ -67,9 +67,9 @@ impl<C: Counts> Trial<C> {
         let before = self.store.calls();
         let found = find::<Counter, Clock, C>(&mut self.store, self.root, number, at)?;
         same(self.store.calls().since(before).gets <= height)?;
-        let until = until(self.plain.ops(), at);
-        same(state.hundredths() == replay(until).hundredths())?;
-        same(latest.map(|last| last.0) == until.last().map(|op| op.number))?;
+        let ops = self.plain.until(at);
+        same(state.hundredths() == replay(ops).hundredths())?;
+        same(latest.map(|last| last.0) == ops.last().map(|op| op.number))?;
         same(found == self.plain.has(number))
     }
 
