@@ -82,15 +82,10 @@ fn read_calls<E: Effect, T: Time>(
 ) -> Result<Vec<Call<E, T>>, AllocError>
     ensures { IfOk result (λ calls. calls.items ≡ calls_in E.Effect T.Time asked.now) }
 {
-    let mut calls = Vec::with_capacity(heap, asked.len())?;
-    // tried with `map_while` and `collect`: no proof, since std has no lemma on `map_while`
-    for numbers in asked {
-        let Some(call) = read_call::<E, T>(*numbers) else {
-            break;
-        };
-        calls.push_reserved(call);
-    }
-    Ok(calls)
+    asked
+        .iter()
+        .map_while(|numbers| read_call::<E, T>(*numbers))
+        .collect(heap)
 }
 
 fn numbers_of<E: Effect, T: Time>(reply: Result<Answer<E::State, T>, Refusal>) -> ReplyNumbers
