@@ -15,6 +15,9 @@ use reference::Operation;
 use std::alloc::Global;
 use times::Clock;
 
+// No tree of 1,023 operations is higher.
+const HIGHEST: u32 = 14;
+
 // The newest version: its root in a store that counts, its operations once more as a plain list, and the number of the
 // operation that is entered next.
 #[derive(Drop)]
@@ -46,7 +49,7 @@ impl<C: Counts> Trial<C> {
         ensures newest { Newest C.Store self.new }
         ensures next { self.new.next ≡ self.old.next }
     {
-        let seen = compare(&mut self.store, self.root, 14, self.plain.ops())?;
+        let seen = compare(&mut self.store, self.root, HIGHEST, self.plain.ops())?;
         same(seen.count == self.plain.ops().len())?;
         Ok(seen.height)
     }
