@@ -1,6 +1,7 @@
 // How long calls take. A time is that of a whole run less that of the same run without the calls in question, divided by
 // their number: what both runs do, opening the ledger and its table among it, cancels out. Each pair is run again and
-// again, the three implementations in turn, on the same input, and the median counts.
+// again, the three implementations in turn, on the same input, and the median counts. Each of the two runs follows a run
+// of the same implementation, and either is the first by turns: so neither alone finds the caches cold.
 use crate::calls::{CallNumbers, ReplyNumbers, STATE, WITHDRAW};
 use crate::random::{about, enter, Random};
 use crate::{Answering, Subject, CELLS};
@@ -76,6 +77,24 @@ fn median(times: &mut [f64]) -> f64 {
     times[times.len() / 2]
 }
 
+// By how much the longer run of a pair takes longer, on warm caches.
+fn difference(
+    answering: Answering,
+    pair: &Pair,
+    longer_first: bool,
+    out: &mut [ReplyNumbers],
+) -> f64 {
+    let mut time = |asked| nanoseconds(answering, asked, out);
+    let (longer, shorter) = (pair.asked.as_slice(), &pair.asked[..pair.shorter]);
+    time(longer);
+    if longer_first {
+        time(longer) - time(shorter)
+    } else {
+        let before = time(shorter);
+        time(longer) - before
+    }
+}
+
 // Nanoseconds a call, of each implementation.
 fn measure(pair: &Pair, implementations: [Answering; 3]) -> [f64; 3] {
     let mut out = vec![ReplyNumbers::default(); pair.asked.len()];
@@ -84,10 +103,10 @@ fn measure(pair: &Pair, implementations: [Answering; 3]) -> [f64; 3] {
     for round in 0..pair.rounds + 5 {
         for turn in 0..3 {
             let which = (round + turn) % 3;
-            let shorter = nanoseconds(implementations[which], &pair.asked[..pair.shorter], &mut out);
-            let longer = nanoseconds(implementations[which], &pair.asked, &mut out);
+            let longer_first = round % 2 == 0;
+            let time = difference(implementations[which], pair, longer_first, &mut out) / calls;
             if round >= 5 {
-                times[which].push((longer - shorter) / calls);
+                times[which].push(time);
             }
         }
     }

@@ -20,10 +20,10 @@ impl<K: Kind> Replay<K> {
     }
 
     fn belief(&self, belief: u32) -> Result<&[Operation<K>], Refusal> {
-        match self.beliefs.get(belief as usize) {
-            Some(operations) => Ok(operations),
-            None => Err(Refusal::NoBelief(belief)),
-        }
+        self.beliefs
+            .get(belief as usize)
+            .map(Vec::as_slice)
+            .ok_or(Refusal::NoBelief(belief))
     }
 
     fn until(&self, belief: u32, time: u64) -> Result<&[Operation<K>], Refusal> {

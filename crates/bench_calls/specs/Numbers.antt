@@ -1,5 +1,5 @@
 -- Calls and answers as numbers.
-use Rattle.std.specs.Prelude.{ℕ, cond, List, [], ◌∷◌, ◌++◌, map, length, take, drop, Some, None, Ok, Err, Option, ◌==◌}
+use Rattle.std.specs.Prelude.{ℕ, cond, List, [], ◌∷◌, ◌++◌, take, drop, Some, None, Ok, Err, Option, ◌==◌}
 use Rattle.std.specs.Option.{option_map}
 use Rattle.effects.specs.declared.Effect as effect
 use Rattle.times.specs.declared.Time as time
@@ -16,10 +16,15 @@ abbrev pub both : {A B C : Type 0} → (A → B → C) → Option A → Option B
 both f (Some a) b = option_map (f a) b
 both f None b = None
 
--- the front that has values
+-- a value before others, or none of them
 abbrev pub front : {A : Type 0} → Option A → List A → List A
 front (Some a) rest = a ∷ rest
 front None rest = []
+
+-- the values at the front of a list, up to where there is none
+abbrev pub map_while : {A B : Type 0} → (A → Option B) → List A → List B
+map_while f [] = []
+map_while f (x ∷ xs) = front (f x) (map_while f xs)
 
 module _ {E St T : Type 0} (e : effect.Ghosts E St) (t : time.Ghosts T) where
   -- the call of numbers, if they are one's
@@ -33,8 +38,7 @@ module _ {E St T : Type 0} (e : effect.Ghosts E St) (t : time.Ghosts T) where
 
   -- the calls before the first numbers that are no call's
   abbrev pub calls_in : List CallNumbers → List (Call E T)
-  calls_in [] = []
-  calls_in (c ∷ cs) = front (call_in c) (calls_in cs)
+  calls_in asked = map_while call_in asked
 
   -- an answer's numbers
   abbrev pub reply_numbers : Reply St T → ReplyNumbers

@@ -22,7 +22,7 @@ use times::{Clock, Time};
 use words::EffectWords;
 
 // A call: its code, the operation or belief that it is about, its time, and the words of its effect. What a call lacks is
-// not looked at.
+// not looked at. Numbers, and no enum: the C interface needs them.
 #[repr(C)]
 #[derive(Clone, Copy)]
 pub struct CallNumbers {
@@ -35,6 +35,7 @@ pub struct CallNumbers {
 
 // An answer: the number of its refusal, 0 where it is none; the new belief, the operation that was found, the count or the
 // refusal's place; and the cells that were taken, the state's word or the time that was found. What an answer lacks is 0.
+// Numbers, and no Result: the C interface needs them.
 #[repr(C)]
 #[derive(Clone, Copy)]
 pub struct ReplyNumbers {
@@ -81,28 +82,24 @@ fn read_calls<E: Effect, T: Time>(
 ) -> Result<Vec<Call<E, T>>, AllocError>
     ensures { IfOk result (λ calls. calls.items ≡ calls_in E.Effect T.Time asked.now) }
 {
-    let mut calls = Vec::with_capacity(heap, asked.len())?;
-    for numbers in asked {
-        let Some(call) = read_call::<E, T>(*numbers) else {
-            break;
-        };
-        calls.push_reserved(call);
-    }
-    Ok(calls)
+    asked
+        .iter()
+        .map_while(|numbers| read_call::<E, T>(*numbers))
+        .collect(heap)
 }
 
 fn numbers_of<E: Effect, T: Time>(reply: Result<Answer<E::State, T>, Refusal>) -> ReplyNumbers
     ensures { result ≡ reply_numbers E.Effect T.Time reply }
 {
     let (refusal, number, word) = match reply {
-        Ok(Answer::Changed(made)) => (0, made.0, made.1 as u64),
+        Ok(Answer::Changed((belief, cells))) => (0, belief, u64::from(cells)),
         Ok(Answer::InState(state)) => (0, 0, E::state_words(state).first),
-        Ok(Answer::Newest(Some(found))) => (0, found.0, found.1.to_word()),
+        Ok(Answer::Newest(Some((operation, time)))) => (0, operation, time.to_word()),
         Ok(Answer::Newest(None)) => (0, 0, 0),
         Ok(Answer::Counted(count)) => (0, count, 0),
         Err(refusal) => {
             let (number, place) = refusal.number_and_place();
-            (number as u32, place, 0)
+            (u32::from(number), place, 0)
         }
     };
     ReplyNumbers {
@@ -121,8 +118,9 @@ fn write_replies<E: Effect, T: Time>(
     ensures written { out.new ≡ replaced result (map (reply_numbers E.Effect T.Time) replies.now) out.old }
 {
     let places = replies.len().min(out.len());
-    for i in 0..places {
-        out[i] = numbers_of::<E, T>(replies[i]);
+    // tried with `out.iter_mut().zip(replies)`: no proof, since nothing is known of what such a loop wrote
+    for (i, reply) in replies[..places].iter().enumerate() {
+        out[i] = numbers_of::<E, T>(*reply);
     }
     places
 }
@@ -153,6 +151,8 @@ fn answer<E: Effect>(
 {
     try_to_answer::<E>(heap, capacity, asked, out).unwrap_or(0)
 }
+
+// One function a kind, and 0 where memory is wanting: the C interface has neither type parameters nor Result.
 
 // Answers calls to a ledger of counters on the clock.
 #[unsafe(no_mangle)]

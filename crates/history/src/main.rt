@@ -2,125 +2,86 @@
 // What was believed before and what is believed after are both asked, and told with the cells that each change took.
 #![tactic(auto)]
 
-use anyhow::anyhow;
+use anyhow::Context;
 use bases::Image;
 use calls::{Answer, Call, Refusal};
 use layers::{Cache, Quota};
 use runs::run;
 use settings::{Settings, Setup};
-use std::io;
+use std::fmt;
 use times::Clock;
 
-// What is asked, in order.
-const ASKED: [&str; 11] = [
-    "at 10 s: batch 7 fitted, plate 12",
-    "at 40 s: batch 9 fitted",
-    "believed at 2: set up at 50 s?",
-    "late, at 20 s: plate 15 fitted",
-    "believed at 3: set up at 50 s?",
-    "batch 9 was wrong: withdraw operation 2",
-    "believed at 2: set up at 50 s?",
-    "believed at 4: set up at 50 s?",
-    "believed at 4: last change by 50 s?",
-    "believed at 4: how many operations?",
-    "withdraw operation 2 again",
-];
-
 fn clock(seconds: u64) -> anyhow::Result<Clock> {
-    match Clock::new(seconds) {
-        Some(time) => Ok(time),
-        None => Err(anyhow!("the clock does not go so far")),
-    }
+    Clock::new(seconds).context("the clock does not go so far")
 }
 
+// The entry of values that were fitted.
 fn fit(seconds: u64, mask: u8, values: Setup) -> anyhow::Result<Call<Settings, Clock>> {
     let time = clock(seconds)?;
-    match Settings::new(mask, values) {
-        Some(effect) => Ok(Call::Enter { time, effect }),
-        None => Err(anyhow!("a value is not masked")),
+    let effect = Settings::new(mask, values).context("a value is not masked")?;
+    Ok(Call::Enter { time, effect })
+}
+
+// What was answered, told in words.
+#[derive(Drop)]
+struct Told(Result<Answer<Setup, Clock>, Refusal>);
+
+impl fmt::Display for Told {
+    fn fmt<W: fmt::Write>(&self, f: &mut fmt::Formatter<W>) -> fmt::Result {
+        match self.0 {
+            Ok(Answer::Changed((belief, cells))) => write!(f, "belief {belief}, {cells} cells"),
+            Ok(Answer::InState(setup)) => {
+                let (batch, _, plate, _) = setup.fields();
+                write!(f, "batch {batch}, plate {plate}")
+            }
+            Ok(Answer::Newest(Some(found))) => {
+                let seconds = found.1.seconds();
+                write!(f, "operation {} at {seconds} s", found.0)
+            }
+            Ok(Answer::Newest(None)) => write!(f, "none"),
+            Ok(Answer::Counted(count)) => write!(f, "{count}"),
+            Err(refusal) => {
+                let (number, place) = refusal.number_and_place();
+                write!(f, "refused with {number:02x} at {place}")
+            }
+        }
     }
 }
 
-fn set_up(belief: u32) -> anyhow::Result<Call<Settings, Clock>> {
-    let time = clock(50)?;
-    Ok(Call::State { belief, time })
-}
-
-// The calls that stand behind what is asked.
-fn calls() -> anyhow::Result<[Call<Settings, Clock>; 11]> {
-    Ok([
-        fit(10, 0x05, Setup::new(7, 0, 12, 0))?,
-        fit(40, 0x01, Setup::new(9, 0, 0, 0))?,
-        set_up(2)?,
-        fit(20, 0x04, Setup::new(0, 0, 15, 0))?,
-        set_up(3)?,
-        Call::Withdraw { operation: 2 },
-        set_up(2)?,
-        set_up(4)?,
-        Call::Latest {
-            belief: 4,
-            time: clock(50)?,
-        },
-        Call::Count { belief: 4 },
-        Call::Withdraw { operation: 2 },
-    ])
-}
-
-// What was answered, as the end of a line of the table.
-fn tell(rt: &impl Print, answer: Result<Answer<Setup, Clock>, Refusal>) -> io::Result<()> {
-    match answer {
-        Ok(answer) => tell_answer(rt, answer),
-        Err(refusal) => tell_refusal(rt, refusal),
-    }
-}
-
-fn tell_answer(rt: &impl Print, answer: Answer<Setup, Clock>) -> io::Result<()> {
-    match answer {
-        Answer::Changed(made) => tell_change(rt, made.0, made.1),
-        Answer::InState(setup) => tell_setup(rt, setup),
-        Answer::Newest(newest) => tell_newest(rt, newest),
-        Answer::Counted(count) => println!(rt; "{count}"),
-    }
-}
-
-fn tell_newest(rt: &impl Print, newest: Option<(u32, Clock)>) -> io::Result<()> {
-    match newest {
-        Some(found) => tell_found(rt, found.0, found.1),
-        None => println!(rt; "none"),
-    }
-}
-
-fn tell_change(rt: &impl Print, belief: u32, cells: u32) -> io::Result<()> {
-    println!(rt; "belief {belief}, {cells} cells")
-}
-
-fn tell_setup(rt: &impl Print, setup: Setup) -> io::Result<()> {
-    let (batch, _, plate, _) = setup.fields();
-    println!(rt; "batch {batch}, plate {plate}")
-}
-
-fn tell_found(rt: &impl Print, number: u32, time: Clock) -> io::Result<()> {
-    let seconds = time.seconds();
-    println!(rt; "operation {number} at {seconds} s")
-}
-
-fn tell_refusal(rt: &impl Print, refusal: Refusal) -> io::Result<()> {
-    let (number, place) = refusal.number_and_place();
-    println!(rt; "refused with {number:02x} at {place}")
-}
-
-fn tell_all(rt: &HostRuntime) -> anyhow::Result<()> {
+// Carries out the calls in order, and tells what was answered to each beside what was asked in words.
+fn tell(rt: &HostRuntime, steps: &[(&str, Call<Settings, Clock>)]) -> anyhow::Result<()> {
     let bytes = vec![in rt.alloc(); 0u8; 44_800]?;
     let store = Cache::open(Quota::open(Image::open(bytes), 800));
-    let (ledger, answers) = run(rt.alloc(), store, &calls()?)?;
-    let _store = ledger.close();
-    for (asked, answer) in ASKED.iter().zip(answers) {
-        print!(rt; "{asked:<42}")?;
-        tell(rt, answer)?;
+    let calls: Vec<_> = steps.iter().map(|step| step.1).collect(rt.alloc())?;
+    let (_ledger, answers) = run(rt.alloc(), store, calls.as_slice())?;
+    for (step, answer) in steps.iter().zip(answers) {
+        println!(rt; "{:<42}{}", step.0, Told(answer))?;
     }
     Ok(())
 }
 
 fn main(rt: HostRuntime) -> anyhow::Result<()> {
-    tell_all(&rt)
+    let first = fit(10, 0x05, Setup::new(7, 0, 12, 0))?;
+    let second = fit(40, 0x01, Setup::new(9, 0, 0, 0))?;
+    let late = fit(20, 0x04, Setup::new(0, 0, 15, 0))?;
+    let withdrawal = Call::Withdraw { operation: 2 };
+    let time = clock(50)?;
+    let set_up = |belief| Call::State { belief, time };
+    let newest = Call::Latest { belief: 4, time };
+    let count = Call::Count { belief: 4 };
+    // what is asked, and the call that stands behind it
+    let steps = [
+        ("at 10 s: batch 7 fitted, plate 12", first),
+        ("at 40 s: batch 9 fitted", second),
+        ("believed at 2: set up at 50 s?", set_up(2)),
+        ("late, at 20 s: plate 15 fitted", late),
+        ("believed at 3: set up at 50 s?", set_up(3)),
+        ("batch 9 was wrong: withdraw operation 2", withdrawal),
+        ("believed at 2: set up at 50 s?", set_up(2)),
+        ("believed at 4: set up at 50 s?", set_up(4)),
+        ("believed at 4: last change by 50 s?", newest),
+        ("believed at 4: how many operations?", count),
+        ("withdraw operation 2 again", withdrawal),
+    ];
+    tell(&rt, &steps)
 }

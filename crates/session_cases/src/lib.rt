@@ -6,7 +6,7 @@
 mod tests {
     use bases::Image;
     use session::answer_input;
-    use std::alloc::AllocError;
+    use std::alloc::{AllocError, Global};
     use std::process::Abort;
     use std::test::Fail;
 
@@ -57,21 +57,38 @@ mod tests {
         ("220004", "22000002"),
     ];
 
-    // Lines and their answers, joined: each ends with a newline, and no answer is no line.
-    fn join(
-        lines: &[(&str, &str)],
-        input: &mut Vec<u8>,
-        expected: &mut Vec<u8>,
-    ) -> Result<(), AllocError> {
-        for (line, answer) in lines {
-            input.extend_from_slice(line.as_bytes())?;
-            input.push(b'\n')?;
-            if !answer.is_empty() {
-                expected.extend_from_slice(answer.as_bytes())?;
-                expected.push(b'\n')?;
+    // Lines and their answers, joined: an input and the output that is expected.
+    #[derive(Drop)]
+    struct Script {
+        input: Vec<u8>,
+        expected: Vec<u8>,
+    }
+
+    impl Script {
+        fn new(heap: Global) -> Script {
+            Script {
+                input: Vec::new(heap),
+                expected: Vec::new(heap),
             }
         }
-        Ok(())
+
+        // Each line ends with a newline, and no answer is no line: a `Some` around each answer, for the one remark that has
+        // none, would be no plainer.
+        fn add(&mut self, lines: &[(&str, &str)]) -> Result<(), AllocError> {
+            for (line, answer) in lines {
+                self.input.extend_from_slice(line.as_bytes())?;
+                self.input.push(b'\n')?;
+                if !answer.is_empty() {
+                    self.expected.extend_from_slice(answer.as_bytes())?;
+                    self.expected.push(b'\n')?;
+                }
+            }
+            Ok(())
+        }
+
+        fn check(&self, rt: &(impl Abort + AllocGlobal), bytes: usize) -> Result<(), Fail> {
+            writes(rt, bytes, self.input.as_slice(), self.expected.as_slice())
+        }
     }
 
     // A record over an image of so many bytes answers the input so.
@@ -93,20 +110,18 @@ mod tests {
         bytes: usize,
         lines: &[(&str, &str)],
     ) -> Result<(), Fail> {
-        let mut input = Vec::new(rt.alloc());
-        let mut expected = Vec::new(rt.alloc());
-        join(lines, &mut input, &mut expected)?;
-        writes(rt, bytes, input.as_slice(), expected.as_slice())
+        let mut script = Script::new(rt.alloc());
+        script.add(lines)?;
+        script.check(rt, bytes)
     }
 
     // The same of a whole session over 800 cells: lines before the opening, those of a kind, and those of every kind.
     fn session(rt: &(impl Abort + AllocGlobal), lines: &[(&str, &str)]) -> Result<(), Fail> {
-        let mut input = Vec::new(rt.alloc());
-        let mut expected = Vec::new(rt.alloc());
-        join(&CLOSED, &mut input, &mut expected)?;
-        join(lines, &mut input, &mut expected)?;
-        join(&OPEN, &mut input, &mut expected)?;
-        writes(rt, 44_800, input.as_slice(), expected.as_slice())
+        let mut script = Script::new(rt.alloc());
+        script.add(&CLOSED)?;
+        script.add(lines)?;
+        script.add(&OPEN)?;
+        script.check(rt, 44_800)
     }
 
     // Set 100,000 at 10, take 90,000 at 30 and, late, take 30,000 at 20; then without the 90,000.
@@ -335,11 +350,9 @@ mod tests {
     #[test]
     fn beliefs(rt: HostRuntime) -> Result<(), Fail> {
         let heap = rt.alloc();
-        let mut input = Vec::new(heap);
-        let mut expected = Vec::new(heap);
-        join(&[("010301ffff", "0100")], &mut input, &mut expected)?;
-        for half in 0u16..511 {
-            let number = 2 * half + 1;
+        let mut script = Script::new(heap);
+        script.add(&[("010301ffff", "0100")])?;
+        for number in (1u16..1_023).step_by(2) {
             let next = number + 1;
             let withdrawal = format!(in heap; "11{number:04x}")?;
             let entered = format!(in heap; "1000{number:04x}")?;
@@ -348,7 +361,7 @@ mod tests {
                 ("10000000000000000501", entered.as_str()),
                 (withdrawal.as_str(), withdrawn.as_str()),
             ];
-            join(&lines, &mut input, &mut expected)?;
+            script.add(&lines)?;
         }
         let lines = [
             ("10000000000000000501", "100003ff"),
@@ -362,8 +375,8 @@ mod tests {
             ("2104000000000000000005", "21210400"),
             ("2203ff", "22000001"),
         ];
-        join(&lines, &mut input, &mut expected)?;
-        writes(&rt, 56 * 2_087, input.as_slice(), expected.as_slice())
+        script.add(&lines)?;
+        script.check(&rt, 56 * 2_087)
     }
 
     // A remark and an opening without its newline, which are 32,768 bytes, and the same with one byte more.

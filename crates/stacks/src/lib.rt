@@ -84,20 +84,14 @@ mod tests {
         }
     }
 
-    // The number and place of a refusal, or zeros.
-    fn refusal<T: Drop>(answer: Result<T, Fault>) -> (u8, u32) {
-        match answer {
-            Ok(_) => (0, 0),
-            Err(fault) => fault.number_and_place(),
-        }
+    // The number and place of a refusal, if it is one.
+    fn refusal<T: Drop>(answer: Result<T, Fault>) -> Option<(u8, u32)> {
+        answer.err().map(|fault| fault.number_and_place())
     }
 
-    // The time of the cell that was got, or 0.
-    fn time(answer: Result<Cell, Fault>) -> u64 {
-        match answer {
-            Ok(cell) => cell.time,
-            Err(_) => 0,
-        }
+    // The time of the cell that was got, if one was.
+    fn time(answer: Result<Cell, Fault>) -> Option<u64> {
+        answer.ok().map(|cell| cell.time)
     }
 
     // 44,800 bytes hold 800 cells.
@@ -105,11 +99,14 @@ mod tests {
     fn fills_to_the_limit(rt: HostRuntime) -> Result<(), Fail> {
         let bytes = vec![in rt.alloc(); 7u8; 44_800]?;
         let mut stack = Cache::open(Quota::open(Image::open(bytes), 1_000));
-        assert_eq!(rt; refusal(put_copies(&mut stack, cell(9), 801)), (0x32, 800));
-        assert_eq!(rt; refusal(put_copies(&mut stack, cell(9), 800)), (0, 0));
+        assert_eq!(rt;
+            refusal(put_copies(&mut stack, cell(9), 801)),
+            Some((0x32, 800))
+        );
+        assert_eq!(rt; refusal(put_copies(&mut stack, cell(9), 800)), None);
         assert_eq!(rt; stack.len(), 800);
-        assert_eq!(rt; refusal(stack.put(cell(9))), (0x32, 0));
-        assert_eq!(rt; time(stack.get(800)), 9);
+        assert_eq!(rt; refusal(stack.put(cell(9))), Some((0x32, 0)));
+        assert_eq!(rt; time(stack.get(800)), Some(9));
         Ok(())
     }
 
@@ -118,7 +115,7 @@ mod tests {
     fn leaves_the_bytes_past_its_cells(rt: HostRuntime) -> Result<(), Fail> {
         let bytes = vec![in rt.alloc(); 7u8; 130]?;
         let (answer, bytes) = through_image(bytes, 9, cell(258));
-        assert_eq!(rt; time(answer), 258);
+        assert_eq!(rt; time(answer), Some(258));
         assert!(rt; bytes.len() == 130);
         assert_eq!(rt; (bytes[5], bytes[6], bytes[7]), (0, 1, 2));
         assert_eq!(rt; (bytes[55], bytes[56], bytes[129]), (2, 7, 7));
@@ -130,13 +127,13 @@ mod tests {
     fn refuses(rt: HostRuntime) -> Result<(), Fail> {
         let table = Table::open(rt.alloc(), 3)?;
         let mut stack = Cache::open(Quota::open(Cache::open(table), 2));
-        assert_eq!(rt; refusal(stack.claim(3)), (0x31, 2));
-        assert_eq!(rt; refusal(put_copies(&mut stack, cell(1), 2)), (0, 0));
-        assert_eq!(rt; refusal(stack.put(cell(1))), (0x31, 0));
-        assert_eq!(rt; refusal(stack.get(0)), (0x33, 0));
-        assert_eq!(rt; refusal(stack.get(3)), (0x33, 3));
+        assert_eq!(rt; refusal(stack.claim(3)), Some((0x31, 2)));
+        assert_eq!(rt; refusal(put_copies(&mut stack, cell(1), 2)), None);
+        assert_eq!(rt; refusal(stack.put(cell(1))), Some((0x31, 0)));
+        assert_eq!(rt; refusal(stack.get(0)), Some((0x33, 0)));
+        assert_eq!(rt; refusal(stack.get(3)), Some((0x33, 3)));
         let below = stack.into_below().into_below();
-        assert_eq!(rt; refusal(below.claim(2)), (0x32, 1));
+        assert_eq!(rt; refusal(below.claim(2)), Some((0x32, 1)));
         Ok(())
     }
 
@@ -144,11 +141,11 @@ mod tests {
     #[test]
     fn shares_a_line(rt: HostRuntime) -> Result<(), Fail> {
         let mut stack = Cache::open(Table::open(rt.alloc(), 17)?);
-        assert_eq!(rt; refusal(stack.put(cell(1))), (0, 0));
-        assert_eq!(rt; refusal(put_copies(&mut stack, cell(2), 16)), (0, 0));
-        assert_eq!(rt; time(stack.get(1)), 1);
-        assert_eq!(rt; time(stack.get(17)), 2);
-        assert_eq!(rt; time(stack.get(1)), 1);
+        assert_eq!(rt; refusal(stack.put(cell(1))), None);
+        assert_eq!(rt; refusal(put_copies(&mut stack, cell(2), 16)), None);
+        assert_eq!(rt; time(stack.get(1)), Some(1));
+        assert_eq!(rt; time(stack.get(17)), Some(2));
+        assert_eq!(rt; time(stack.get(1)), Some(1));
         Ok(())
     }
 }

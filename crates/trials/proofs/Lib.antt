@@ -1,2 +1,1 @@
-mod Shelving
 mod Going

@@ -1,6 +1,8 @@
 // Compares the tree at a root with a plain list: its operations in order, every height and every total.
+ghost use Rattle.std.specs.Prelude.{◌≤◌, length, IfOk};
 ghost use Rattle.tree.specs.Making.{Unchanged};
 
+use super::plain::replay;
 use super::trouble::{Trouble, same};
 use counter::Counter;
 use effects::Effect;
@@ -9,41 +11,31 @@ use store::Store;
 use times::Clock;
 use tree::{Node, read};
 
-// Where the list goes on after a tree, and the height of the tree.
+// How many operations a tree has, and its height.
 #[derive(Drop)]
 pub struct Seen {
-    pub next: usize,
+    pub count: usize,
     pub height: u32,
 }
 
-// Whether a total makes of the start state what the operations from one place up to another make of it.
-fn acts_alike(
-    plain: &[Operation<Counter, Clock>],
-    from: usize,
-    next: usize,
-    total: Counter,
-) -> bool {
-    let mut state = Counter::start_state();
-    for op in plain.iter().skip(from).take(next.saturating_sub(from)) {
-        state = op.effect.act(state);
-    }
-    state.hundredths() == total.act(Counter::start_state()).hundredths()
+// Whether a total makes of the start state what the operations make of it.
+fn acts_alike(plain: &[Operation<Counter, Clock>], total: Counter) -> bool {
+    replay(plain).hundredths() == total.act(Counter::start_state()).hundredths()
 }
 
-// The tree at cell k, at most so deep, against the list from a place on.
+// The tree at cell k, at most so deep, against the list that begins with its operations.
 pub(crate) fn compare<S: Store>(
     store: &mut S,
     k: u32,
     depth: u32,
     plain: &[Operation<Counter, Clock>],
-    from: usize,
 ) -> Result<Seen, Trouble>
-    requires { S.Store.sound store.old }
-    ensures { Unchanged S.Store store.old store.new }
+    ensures same { Unchanged S.Store store.old store.new }
+    ensures within { IfOk result (λ seen. seen.count ≤ length plain.now) }
 {
     if k == 0 {
         return Ok(Seen {
-            next: from,
+            count: 0,
             height: 0,
         });
     }
@@ -57,25 +49,14 @@ pub(crate) fn compare<S: Store>(
         height,
         total,
     } = read::<Counter, Clock, S>(store, k)?;
-    let before = compare(store, left, depth - 1, plain, from)?;
-    let own = plain.get(before.next).ok_or(Trouble::Differs)?;
+    let before = compare(store, left, depth - 1, plain)?;
+    let (own, rest) = plain[before.count..].split_first().ok_or(Trouble::Differs)?;
+    let after = compare(store, right, depth - 1, rest)?;
+    let count = before.count + 1 + after.count;
     same(own.number == op.number && own.time.seconds() == op.time.seconds())?;
     same(own.effect.amount() == op.effect.amount())?;
-    let after = compare(
-        store,
-        right,
-        depth - 1,
-        plain,
-        before.next.saturating_add(1),
-    )?;
     same(height == before.height.max(after.height).saturating_add(1))?;
-    same(
-        before.height <= after.height.saturating_add(1)
-            && after.height <= before.height.saturating_add(1),
-    )?;
-    same(acts_alike(plain, from, after.next, total))?;
-    Ok(Seen {
-        next: after.next,
-        height,
-    })
+    same(before.height.abs_diff(after.height) <= 1)?;
+    same(acts_alike(&plain[..count], total))?;
+    Ok(Seen { count, height })
 }

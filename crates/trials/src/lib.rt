@@ -4,7 +4,6 @@
 mod compare;
 mod counting;
 mod plain;
-mod shelf;
 mod trial;
 mod trouble;
 mod versions;
@@ -12,33 +11,36 @@ mod versions;
 #[cfg(test)]
 mod tests {
     use super::counting::Counting;
-    use super::shelf::Shelf;
-    use super::trial::{Times, trial};
+    use super::trial::enter_and_withdraw;
     use super::trouble::Trouble;
+    use bases::Table;
     use std::alloc::Global;
     use std::test::Fail;
 
-    // Three hundred operations over a fresh store.
-    fn run(heap: Global, times: &Times) -> Result<(), Trouble> {
-        let mut store = Counting::open(Shelf::open(heap, 30000)?);
-        trial(heap, &mut store, times, 301)
+    // Three hundred operations over a fresh store, of which the operation of a number happened so many seconds after
+    // the start; four or more share a time.
+    fn run<F: Fn(u32) -> u64>(heap: Global, seconds_of: F) -> Result<(), Trouble>
+        requires { F.IsAlwaysCallable seconds_of }
+    {
+        let store = Counting::open(Table::open(heap, 30_000)?);
+        enter_and_withdraw(heap, store, seconds_of, 301)
     }
 
     #[test]
     fn ascending(rt: HostRuntime) -> Result<(), Fail> {
-        run(rt.alloc(), &Times::Ascending)?;
+        run(rt.alloc(), |n| u64::from(n) / 4)?;
         Ok(())
     }
 
     #[test]
     fn descending(rt: HostRuntime) -> Result<(), Fail> {
-        run(rt.alloc(), &Times::Descending)?;
+        run(rt.alloc(), |n| 1000u64.saturating_sub(u64::from(n)) / 4)?;
         Ok(())
     }
 
     #[test]
     fn shuffled(rt: HostRuntime) -> Result<(), Fail> {
-        run(rt.alloc(), &Times::Shuffled)?;
+        run(rt.alloc(), |n| u64::from(n) * 389 % 97)?;
         Ok(())
     }
 }

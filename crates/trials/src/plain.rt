@@ -1,53 +1,61 @@
-// A plain sorted list of operations, which the trials compare a tree with.
-ghost use Rattle.std.specs.Prelude.{◌<◌, ◌≤◌, length, IfSome};
+// A plain list of operations, which the trials compare a tree with.
+ghost use Rattle.std.specs.Prelude.{◌≤◌, length, vec_len};
 
 use counter::{Counter, Level};
 use effects::Effect;
 use reference::Operation;
+use std::alloc::{AllocError, Global};
 use times::Clock;
 
-// Where a new operation goes: before the first of a later time.
-pub(crate) fn place_of(plain: &[Operation<Counter, Clock>], time: Clock) -> usize
-    ensures { result ≤ length plain.now }
-{
-    for (i, op) in plain.iter().enumerate() {
-        if time.seconds() < op.time.seconds() {
-            return i;
-        }
-    }
-    plain.len()
+// Operations in the order of their times. A sorted Vec, since a map would be no plainer than the tree that it is to check.
+#[derive(Drop)]
+pub struct Plain {
+    ops: Vec<Operation<Counter, Clock>>,
 }
 
-// Where the operation of a number is.
-pub(crate) fn index_of(plain: &[Operation<Counter, Clock>], number: u32) -> Option<usize>
-    ensures { IfSome result (λ i. i < length plain.now) }
-{
-    for (i, op) in plain.iter().enumerate() {
-        if op.number == number {
-            return Some(i);
+impl Plain {
+    pub(crate) fn new(heap: Global) -> Plain {
+        Plain {
+            ops: Vec::new(heap),
         }
     }
-    None
+
+    pub(crate) fn ops(&self) -> &[Operation<Counter, Clock>] {
+        self.ops.as_slice()
+    }
+
+    // The operations that are not after a time: those before the first of a later one.
+    pub(crate) fn until(&self, at: Clock) -> &[Operation<Counter, Clock>]
+        ensures { length result.now ≤ vec_len self.now.ops }
+    {
+        let later = self
+            .ops
+            .iter()
+            .position(|op| at.seconds() < op.time.seconds());
+        let end = later.unwrap_or(self.ops.len());
+        &self.ops.as_slice()[..end]
+    }
+
+    // Puts an operation before the first of a later time.
+    pub(crate) fn enter(&mut self, op: Operation<Counter, Clock>) -> Result<(), AllocError> {
+        let place = self.until(op.time).len();
+        self.ops.insert(place, op)?;
+        Ok(())
+    }
+
+    // Takes out the operation of a number.
+    pub(crate) fn withdraw(&mut self, number: u32) -> Option<Operation<Counter, Clock>> {
+        let place = self.ops.iter().position(|op| op.number == number)?;
+        Some(self.ops.remove(place))
+    }
+
+    pub(crate) fn has(&self, number: u32) -> bool {
+        self.ops.iter().any(|op| op.number == number)
+    }
 }
 
-// The start state carried through the operations that are not after a time.
-pub(crate) fn state_of(plain: &[Operation<Counter, Clock>], at: Clock) -> Level {
-    let mut state = Counter::start_state();
-    for op in plain {
-        if op.time.seconds() <= at.seconds() {
-            state = op.effect.act(state);
-        }
-    }
-    state
-}
-
-// The number of the last operation that is not after a time, 0 for none.
-pub(crate) fn last_of(plain: &[Operation<Counter, Clock>], at: Clock) -> u32 {
-    let mut last = 0;
-    for op in plain {
-        if op.time.seconds() <= at.seconds() {
-            last = op.number;
-        }
-    }
-    last
+// The start state carried through the operations.
+pub(crate) fn replay(ops: &[Operation<Counter, Clock>]) -> Level {
+    ops.iter()
+        .fold(Counter::start_state(), |state, op| op.effect.act(state))
 }

@@ -1,159 +1,146 @@
 // Whole trials: many operations entered in one order of times, a third of them withdrawn, every version compared.
-ghost use Rattle.std.specs.Prelude.{◌≡◌, ◌+◌, ◌≤◌, IfSome, IfOk};
+ghost use Rattle.std.specs.Prelude.{◌≡◌, ◌+◌, ◌≤◌, IfOk};
 ghost use Rattle.counter.specs.contracts.kind.CounterEffect.TheImpl.{ghosts as counters};
 ghost use Rattle.times.specs.contracts.clock.kind.ClockTime.TheImpl.{ghosts as clocks};
-ghost use Rattle.tree.specs.Making.{Unchanged};
-ghost use Rattle.questions.specs.Standing.{Standing};
-ghost use Rattle.trials.specs.Versions.{Version};
+ghost use Rattle.trials.specs.Versions.{Newest};
 
 use super::compare::compare;
 use super::counting::Counts;
-use super::plain::{index_of, last_of, place_of, state_of};
+use super::plain::{Plain, replay};
 use super::trouble::{Trouble, same};
-use super::versions::{enter, first_root, withdraw};
+use super::versions::{enter, withdraw};
 use counter::Counter;
 use questions::{find, latest_at, state_at};
 use reference::Operation;
 use std::alloc::Global;
 use times::Clock;
 
-// The order of the times in which a trial enters its operations.
+// No tree of 1,023 operations is higher.
+const HIGHEST: u32 = 14;
+
+// The newest version: its root in a store that counts, its operations once more as a plain list, and the number of the
+// operation that is entered next.
 #[derive(Drop)]
-pub enum Times {
-    Ascending,
-    Descending,
-    Shuffled,
-}
-
-// When the operation of a number happened; four or more share a time.
-fn seconds_of(times: &Times, number: u32) -> u64 {
-    let n = u64::from(number);
-    match times {
-        Times::Ascending => n / 4,
-        Times::Descending => 1000u64.saturating_sub(n) / 4,
-        Times::Shuffled => n * 389 % 97,
-    }
-}
-
-// The operation of a number.
-fn operation(times: &Times, number: u32) -> Option<Operation<Counter, Clock>>
-    ensures { IfSome result (λ op. op.number ≡ number) }
-{
-    let time = Clock::new(seconds_of(times, number))?;
-    let effect = Counter::new(10, number % 50, 900)?;
-    Some(Operation {
-        number,
-        time,
-        effect,
-    })
-}
-
-// Asks the tree at a root for the state and the latest at a time, and finds one operation: each answer against the plain
-// list's, and its gets against the height.
-fn ask_and_compare<C: Counts>(
-    store: &mut C,
-    root: u32,
-    height: u32,
-    number: u32,
-    at: Clock,
-    plain: &[Operation<Counter, Clock>],
-) -> Result<(), Trouble>
-    requires sound { C.Store.sound store.old }
-    requires stands { Standing counters clocks (C.Store.meaning store.old).cells root }
-    ensures { Unchanged C.Store store.old store.new }
-{
-    let gets = store.gets();
-    let state = state_at::<Counter, Clock, C>(store, root, at)?;
-    same(state.hundredths() == state_of(plain, at).hundredths())?;
-    same(store.gets().saturating_sub(gets) <= height.saturating_mul(2))?;
-    let gets = store.gets();
-    let latest = latest_at::<Counter, Clock, C>(store, root, at)?;
-    let last = match latest {
-        Some(pair) => pair.0,
-        None => 0,
-    };
-    same(last == last_of(plain, at))?;
-    same(store.gets().saturating_sub(gets) <= height)?;
-    let gets = store.gets();
-    let found = find::<Counter, Clock, C>(store, root, number, at)?;
-    same(found == index_of(plain, number).is_some())?;
-    same(store.gets().saturating_sub(gets) <= height)
-}
-
-// Enters an operation into the tree at a root and into the plain list, and compares the two.
-fn enter_and_compare<C: Counts>(
-    store: &mut C,
-    root: u32,
-    op: Operation<Counter, Clock>,
-    plain: &mut Vec<Operation<Counter, Clock>>,
-) -> Result<u32, Trouble>
-    requires version { Version counters clocks C.Store store.old root op.number }
-    requires few { op.number ≤ 1023 }
-    ensures { IfOk result (λ k. Version counters clocks C.Store store.new k (op.number + 1)) }
-{
-    let place = place_of(plain, op.time);
-    plain.insert(place, op)?;
-    let gets = store.gets();
-    let puts = store.puts();
-    let new = enter(store, root, op)?;
-    let gets = store.gets().saturating_sub(gets);
-    let puts = store.puts().saturating_sub(puts);
-    let seen = compare(store, new, 14, plain, 0)?;
-    same(seen.next == plain.len())?;
-    same(gets <= seen.height.saturating_mul(3).saturating_add(6))?;
-    same(puts <= seen.height.saturating_add(3))?;
-    ask_and_compare(store, new, seen.height, op.number, op.time, plain)?;
-    Ok(new)
-}
-
-// Withdraws the operation of a number from both, and compares the two. Numbers so far are below `next`.
-fn withdraw_and_compare<C: Counts>(
-    store: &mut C,
+pub struct Trial<C: Counts> {
+    store: C,
     root: u32,
     next: u32,
-    number: u32,
-    plain: &mut Vec<Operation<Counter, Clock>>,
-) -> Result<u32, Trouble>
-    requires version { Version counters clocks C.Store store.old root next }
-    requires few { next ≤ 1023 }
-    ensures { IfOk result (λ k. Version counters clocks C.Store store.new k next) }
-{
-    let i = index_of(plain, number).ok_or(Trouble::Differs)?;
-    let op = plain.remove(i);
-    let gets = store.gets();
-    let puts = store.puts();
-    let new = withdraw::<Counter, Clock, C>(store, root, next, number, op.time)?;
-    let gets = store.gets().saturating_sub(gets);
-    let puts = store.puts().saturating_sub(puts);
-    let seen = compare(store, new, 14, plain, 0)?;
-    same(seen.next == plain.len())?;
-    let high = seen.height.saturating_add(1);
-    same(gets <= high.saturating_mul(10))?;
-    same(puts <= high.saturating_mul(3))?;
-    ask_and_compare(store, new, seen.height, number, op.time, plain)?;
-    Ok(new)
+    plain: Plain,
 }
 
-// Enters operations 1 to `count`, and then withdraws every third of them.
-pub(crate) fn trial<C: Counts>(
+impl<C: Counts> Trial<C> {
+    // Before operation 1.
+    fn open(heap: Global, store: C) -> Trial<C>
+        ensures newest { Newest C.Store result }
+        ensures next { result.next ≡ 1 }
+    {
+        Trial {
+            store,
+            root: 0,
+            next: 1,
+            plain: Plain::new(heap),
+        }
+    }
+
+    // Compares the newest version with the plain list, and tells its height.
+    fn compare(&mut self) -> Result<u32, Trouble>
+        requires { Newest C.Store self.old }
+        ensures newest { Newest C.Store self.new }
+        ensures next { self.new.next ≡ self.old.next }
+    {
+        let seen = compare(&mut self.store, self.root, HIGHEST, self.plain.ops())?;
+        same(seen.count == self.plain.ops().len())?;
+        Ok(seen.height)
+    }
+
+    // Asks the newest version for the state and the latest at a time, and finds one operation: each answer against the
+    // plain list's, and its gets against the height.
+    fn ask(&mut self, height: u32, number: u32, at: Clock) -> Result<(), Trouble>
+        requires { Newest C.Store self.old }
+        ensures newest { Newest C.Store self.new }
+        ensures next { self.new.next ≡ self.old.next }
+    {
+        let before = self.store.calls();
+        let state = state_at::<Counter, Clock, C>(&mut self.store, self.root, at)?;
+        same(self.store.calls().since(before).gets <= height.saturating_mul(2))?;
+        let before = self.store.calls();
+        let latest = latest_at::<Counter, Clock, C>(&mut self.store, self.root, at)?;
+        same(self.store.calls().since(before).gets <= height)?;
+        let before = self.store.calls();
+        let found = find::<Counter, Clock, C>(&mut self.store, self.root, number, at)?;
+        same(self.store.calls().since(before).gets <= height)?;
+        let ops = self.plain.until(at);
+        same(state.hundredths() == replay(ops).hundredths())?;
+        same(latest.map(|last| last.0) == ops.last().map(|op| op.number))?;
+        same(found == self.plain.has(number))
+    }
+
+    // Enters an operation into the tree and into the plain list, and compares the two.
+    fn enter(&mut self, time: Clock, effect: Counter) -> Result<(), Trouble>
+        requires newest { Newest C.Store self.old }
+        requires few { self.old.next ≤ 1023 }
+        ensures { IfOk result (λ _. Newest C.Store self.new × (self.new.next ≡ self.old.next + 1)) }
+    {
+        let number = self.next;
+        let op = Operation {
+            number,
+            time,
+            effect,
+        };
+        self.plain.enter(op)?;
+        let before = self.store.calls();
+        self.root = enter(&mut self.store, self.root, op)?;
+        self.next += 1;
+        let calls = self.store.calls().since(before);
+        let height = self.compare()?;
+        same(calls.gets <= height.saturating_mul(3).saturating_add(6))?;
+        same(calls.puts <= height.saturating_add(3))?;
+        self.ask(height, number, time)
+    }
+
+    // Withdraws the operation of a number from both, and compares the two.
+    fn withdraw(&mut self, number: u32) -> Result<(), Trouble>
+        requires newest { Newest C.Store self.old }
+        requires few { self.old.next ≤ 1023 }
+        ensures { IfOk result (λ _. Newest C.Store self.new × (self.new.next ≡ self.old.next)) }
+    {
+        let op = self.plain.withdraw(number).ok_or(Trouble::Differs)?;
+        let before = self.store.calls();
+        self.root = withdraw::<Counter, Clock, C>(
+            &mut self.store,
+            self.root,
+            self.next,
+            number,
+            op.time,
+        )?;
+        let calls = self.store.calls().since(before);
+        let height = self.compare()?;
+        let high = height.saturating_add(1);
+        same(calls.gets <= high.saturating_mul(10))?;
+        same(calls.puts <= high.saturating_mul(3))?;
+        self.ask(height, number, op.time)
+    }
+}
+
+// Enters the operations of the numbers below `count`, which happened so many seconds after the start, and then withdraws
+// every third of them.
+pub(crate) fn enter_and_withdraw<C: Counts + Drop, F: Fn(u32) -> u64>(
     heap: Global,
-    store: &mut C,
-    times: &Times,
+    store: C,
+    seconds_of: F,
     count: u32,
 ) -> Result<(), Trouble>
-    requires sound { C.Store.sound store.old }
     requires count { (1 ≤ count) × (count ≤ 1000) }
+    requires times { F.IsAlwaysCallable seconds_of }
 {
-    let mut plain: Vec<Operation<Counter, Clock>> = Vec::new(heap);
-    let mut root = first_root::<Counter, Clock, C>(store);
+    let mut trial = Trial::open(heap, store);
     for number in 1..count {
-        let op = operation(times, number).ok_or(Trouble::Differs)?;
-        root = enter_and_compare(store, root, op, &mut plain)?;
+        let time = Clock::new(seconds_of(number)).ok_or(Trouble::Differs)?;
+        let effect = Counter::new(10, number % 50, 900).ok_or(Trouble::Differs)?;
+        trial.enter(time, effect)?;
     }
-    for number in 1..count {
-        if number % 3 == 0 {
-            root = withdraw_and_compare(store, root, count, number, &mut plain)?;
-        }
+    for number in (3..count).step_by(3) {
+        trial.withdraw(number)?;
     }
     Ok(())
 }

@@ -1,5 +1,4 @@
 // What can go wrong in a trial.
-ghost use Rattle.std.specs.Prelude.{◌≡◌};
 
 use std::alloc::{AllocError, AllocFailed};
 use store::Fault;
@@ -13,25 +12,20 @@ pub enum Trouble {
     Differs,
 }
 
+// Conversions by hand: a derived one keeps what it converts, and a store's fault has no Debug that could show it.
 impl From<AllocError> for Trouble {
-    ghost from_gives = { λ _ _. Unit {0} };
-
     fn from(_e: AllocError) -> Trouble {
         Trouble::Memory
     }
 }
 
 impl<T: Drop> From<AllocFailed<T>> for Trouble {
-    ghost from_gives = { λ _ _. Unit {0} };
-
     fn from(_e: AllocFailed<T>) -> Trouble {
         Trouble::Memory
     }
 }
 
 impl From<Fault> for Trouble {
-    ghost from_gives = { λ _ _. Unit {0} };
-
     fn from(_f: Fault) -> Trouble {
         Trouble::Refused
     }

@@ -12,14 +12,6 @@ use times::Time;
 // The most cells that a change takes.
 const CLAIM: u32 = 42;
 
-// The root of the version without operations, before number 1.
-pub(crate) fn first_root<E: Effect, T: Time, S: Store>(store: &S) -> u32
-    requires { S.Store.sound store.now }
-    ensures { Version E.Effect T.Time S.Store store.now result 1 }
-{
-    0
-}
-
 pub(crate) fn enter<E: Effect, T: Time, S: Store>(
     store: &mut S,
     root: u32,
@@ -46,8 +38,6 @@ pub(crate) fn withdraw<E: Effect, T: Time, S: Store>(
     ensures { IfOk result (λ k. Version E.Effect T.Time S.Store store.new k next) }
 {
     store.claim(CLAIM)?;
-    match remove::<E, T, S>(store, root, number, time)? {
-        Some(new) => Ok(new),
-        None => Ok(root),
-    }
+    let new = remove::<E, T, S>(store, root, number, time)?;
+    Ok(new.unwrap_or(root))
 }
