@@ -82,19 +82,12 @@ impl PayloadWords for Counter {
 
 impl PayloadWords for Settings {
     fn words(form: Settings, heap: Global) -> Result<String, AllocError> {
-        let (batch, nozzle, plate, profile) = form.values().fields();
+        let names = ["batch", "nozzle", "plate", "profile"];
         let mut text = String::from_str(heap, "set")?;
-        if form.mask() % 2 == 1 {
-            text.push_str(format!(in heap; " batch {batch}")?.as_str())?;
-        }
-        if (form.mask() >> 1) % 2 == 1 {
-            text.push_str(format!(in heap; " nozzle {nozzle}")?.as_str())?;
-        }
-        if (form.mask() >> 2) % 2 == 1 {
-            text.push_str(format!(in heap; " plate {plate}")?.as_str())?;
-        }
-        if (form.mask() >> 3) % 2 == 1 {
-            text.push_str(format!(in heap; " profile {profile}")?.as_str())?;
+        for (name, field) in names.into_iter().zip(form.fields()) {
+            if let Some(value) = field {
+                write!(text, " {name} {value}")?;
+            }
         }
         if form.mask() == 0 {
             text.push_str(" nothing")?;

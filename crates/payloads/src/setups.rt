@@ -1,5 +1,5 @@
 // The payload of settings: the mask, and a value for each field that it has.
-ghost use Rattle.std.specs.Prelude.{◌≡◌, ◌+◌, ◌<◌, ◌≤◌, ◌++◌};
+ghost use Rattle.std.specs.Prelude.{◌≡◌, ◌+◌, ◌<◌, ◌≤◌, ◌++◌, length};
 ghost use Rattle.digits.specs.Held.{contents};
 ghost use Rattle.settings.specs.Masks.{masked};
 ghost use Rattle.payloads.specs.Setups.{width, field_bytes, Splits, settings_layout, settings_size, settings_in, settings_parsed};
@@ -22,14 +22,13 @@ fn split_field(mask: u8, field: u32, bytes: &[u8]) -> Option<(u16, &[u8])>
     }
 }
 
-// Appends the value of a field, where the mask has it and there is room.
-fn append_field(mask: u8, field: u32, value: u16, out: &mut Bytes)
-    requires place { field < 4 }
-    requires room { out.old.len + width (masked mask field) ≤ 32 }
-    ensures items { contents out.new ≡ contents out.old ++ field_bytes (masked mask field) value }
-    ensures len { out.new.len ≡ out.old.len + width (masked mask field) }
+// Appends the bytes of a field, where there is room for them.
+fn append_field(field: Option<u16>, out: &mut Bytes)
+    requires { out.old.len + length (field_bytes field) ≤ 32 }
+    ensures items { contents out.new ≡ contents out.old ++ field_bytes field }
+    ensures len { out.new.len ≡ out.old.len + length (field_bytes field) }
 {
-    if (mask >> field) % 2 == 1 {
+    if let Some(value) = field {
         out.append(&u16_bytes(value));
     }
 }
@@ -85,12 +84,9 @@ impl Payload for Settings {
     }
 
     fn append(form: Settings, out: &mut Bytes) {
-        let mask = form.mask();
-        let (batch, nozzle, plate, profile) = form.values().fields();
-        out.push(mask);
-        append_field(mask, 0, batch, out);
-        append_field(mask, 1, nozzle, out);
-        append_field(mask, 2, plate, out);
-        append_field(mask, 3, profile, out);
+        out.push(form.mask());
+        for field in form.fields() {
+            append_field(field, out);
+        }
     }
 }
