@@ -1,5 +1,5 @@
 -- Worked cases of the kinds and of the reference ledger, each a closed computation.
-use Rattle.std.specs.Prelude.{◌≡◌, ℕ, ◌^◌, true, false, ◌||◌, T, [], ℤ, pos, negsuc, neg_ℤ, ◌==◌, int_le, nat_le, nat_lt}
+use Rattle.std.specs.Prelude.{◌≡◌, ℕ, ◌^◌, true, false, T, [], ℤ, pos, negsuc, neg_ℤ, int_le, nat_le, nat_lt}
 use Rattle.std.proofs.Common.{lit<, lit≤}
 use Rattle.std.specs.Int.Signed.{le_z_yes, mag}
 use Rattle.counter.specs.declared.Level.{Level}

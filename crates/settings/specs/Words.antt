@@ -1,10 +1,9 @@
 -- The words of settings read back as them, and only they do; no two set-ups share a word.
-use Rattle.std.specs.Prelude.{◌≡◌, ℕ, ◌/◌, ◌%◌, ◌^◌, ◌<◌, T, Some, None, Option, nat_lt, refl}
-use Rattle.std.specs.Option.{unwrap_or, option_or}
+use Rattle.std.specs.Prelude.{◌≡◌, ℕ, ◌/◌, ◌%◌, ◌^◌, ◌<◌, T, Some, None, nat_lt, refl}
 use Rattle.std.proofs.Common.{sym, ap, ◌∙◌, arith, lt→ltb}
 use Rattle.words.specs.declared.EffectWords.{EffectWords}
 use Rattle.words.proofs.Giving.{given_passed, given_some, none_where, same_effect_words}
-use Rattle.settings.specs.Masks.{settings_of, mask_of, values_of}
+use Rattle.settings.specs.Masks.{settings_of, values_of}
 use Rattle.settings.specs.Packing.{setup_word, setup_of, settings_words, settings_read}
 use Rattle.settings.specs.declared.Setup.{Setup}
 use Rattle.settings.specs.declared.Settings.{Settings}
