@@ -9,17 +9,17 @@ use Rattle.std.specs.Int.Count.{ones}
 use Rattle.std.specs.Int.Digits.{AllBelowBase}
 use Rattle.std.proofs.ByRecursion.{All-drop}
 use Rattle.words.specs.Given.{given}
-use Rattle.words.proofs.Giving.{given_passed, given_failed, given_some}
+use Rattle.words.proofs.Giving.{given_passed, given_failed, given_some, same_effect_words}
 use Rattle.big_endian.specs.Numbers.{bytes_of}
 use Rattle.big_endian.proofs.Numbering.{worth_bytes}
 use Rattle.settings.specs.Overwriting.{fields_of}
-use Rattle.settings.specs.Masks.{masked, mask_of, values_of, settings_of}
-use Rattle.settings.specs.Made.{mask_small, mask_has}
-use Rattle.settings.specs.Packing.{setup_word, settings_read}
+use Rattle.settings.specs.Masks.{masked, mask_of, values_of}
+use Rattle.settings.specs.Made.{mask_small, mask_has, mask_from, there_if}
+use Rattle.settings.specs.Packing.{setup_word, settings_words, settings_read}
 use Rattle.settings.specs.declared.Setup.{Setup}
 use Rattle.settings.specs.declared.Settings.{Settings}
-use Rattle.settings.specs.Words.{setup_apart, read_is, settings_reads_back, settings_reads_only, reads_none}
-use Rattle.payloads.specs.Setups.{width, field_bytes, value, after, settings_layout, settings_size, values_word, settings_in, settings_parsed}
+use Rattle.settings.specs.Words.{setup_apart, settings_reads_back, settings_reads_only, reads_none}
+use Rattle.payloads.specs.Setups.{width, field_bytes, field_in, value, after, settings_layout, settings_size, values_word, settings_in, settings_parsed}
 use Rattle.payloads.specs.Fronts.{front_back, front_below, begins}
 
 -- the bytes of all fields that a mask has
@@ -195,10 +195,12 @@ too_short mask bs four short =
     let w = widths mask (omega arith) in
     sym (given_failed (nat_le (2 * ones (bit_and mask 15)) (length bs)) _ (λ p. let h = leb→le (2 * ones (bit_and mask 15)) (length bs) p in omega arith))
 
-pub settings_made : (mask : ℕ) (bs : List ℕ) (s : Setup) → mask ≤ 15 → widths_of mask ≤ length bs → setup_word s ≡ values_word mask bs → settings_of mask s ≡ settings_in mask bs
-settings_made mask bs s four long word =
+pub settings_made : (mask : ℕ) (bs : List ℕ) (s : Settings) → mask ≤ 15 → widths_of mask ≤ length bs → mask_of s ≡ mask → setup_word (values_of s) ≡ values_word mask bs → Some s ≡ settings_in mask bs
+settings_made mask bs s four long same word =
     let w = widths mask (omega arith) in
-    read_is (record { first = mask; second = values_word mask bs }) s word ∙ sym (given_passed (nat_le (2 * ones (bit_and mask 15)) (length bs)) _ (le→leb (2 * ones (bit_and mask 15)) (length bs) (omega arith)))
+    let words = same_effect_words (settings_words s) (record { first = mask; second = values_word mask bs }) same word in
+    sym (settings_reads_back s) ∙ ap settings_read words
+    ∙ sym (given_passed (nat_le (2 * ones (bit_and mask 15)) (length bs)) _ (le→leb (2 * ones (bit_and mask 15)) (length bs) (omega arith)))
 
 module _ (mask : ℕ) (bs : List ℕ) (four : mask ≤ 15) where
   pub short_at_0 : length bs < width (masked mask 0) → None ≡ settings_in mask bs
@@ -215,21 +217,23 @@ module _ (mask : ℕ) (bs : List ℕ) (four : mask ≤ 15) where
       pub short_at_3 : (r₃ : List ℕ) → length r₃ + width (masked mask 2) ≡ length r₂ → length r₃ < width (masked mask 3) → None ≡ settings_in mask bs
       short_at_3 r₃ l₃ short = too_short mask bs four (omega arith)
 
--- what was split off of bytes: a value v and the bytes r after it
-abbrev Split : Bool → List ℕ → ℕ → List ℕ → Type 0
-Split has bs v r = (v ≡ value has bs) × (r ≡ after has bs) × (length r + width has ≡ length bs)
+-- what was split off of bytes: a field f and the bytes r after it
+abbrev Split : Bool → List ℕ → Option ℕ → List ℕ → Type 0
+Split has bs f r = (f ≡ field_in has bs) × (r ≡ after has bs) × (length r + width has ≡ length bs)
 
-pub settings_whole : (mask : ℕ) (bs r₁ r₂ r₃ r₄ : List ℕ) (v₀ v₁ v₂ v₃ : ℕ) (s : Setup) (r : Option Settings) → mask ≤ 15 →
-    Split (masked mask 0) bs v₀ r₁ → Split (masked mask 1) r₁ v₁ r₂ → Split (masked mask 2) r₂ v₂ r₃ → Split (masked mask 3) r₃ v₃ r₄ →
-    (s.batch ≡ v₀) × (s.nozzle ≡ v₁) × (s.plate ≡ v₂) × (s.profile ≡ v₃) → r ≡ settings_of mask s → r ≡ settings_in mask bs
-settings_whole mask bs r₁ r₂ r₃ r₄ v₀ v₁ v₂ v₃ s r four p₀ p₁ p₂ p₃ fields made =
+pub settings_whole : (mask : ℕ) (bs r₁ r₂ r₃ r₄ : List ℕ) (f₀ f₁ f₂ f₃ : Option ℕ) (s : Settings) → mask ≤ 15 →
+    Split (masked mask 0) bs f₀ r₁ → Split (masked mask 1) r₁ f₁ r₂ → Split (masked mask 2) r₂ f₂ r₃ → Split (masked mask 3) r₃ f₃ r₄ →
+    fields_of s ≡ f₀ ∷ f₁ ∷ f₂ ∷ f₃ ∷ [] → Some s ≡ settings_in mask bs
+settings_whole mask bs r₁ r₂ r₃ r₄ f₀ f₁ f₂ f₃ s four p₀ p₁ p₂ p₃ fields =
     let m₀ = masked mask 0 in let m₁ = masked mask 1 in let m₂ = masked mask 2 in let m₃ = masked mask 3 in
     let e₁ : r₁ ≡ after m₀ bs = p₀.1 in
     let e₂ : r₂ ≡ after m₁ (after m₀ bs) = p₁.1 ∙ ap (after m₁) e₁ in
     let e₃ : r₃ ≡ after m₂ (after m₁ (after m₀ bs)) = p₂.1 ∙ ap (after m₂) e₂ in
-    let a₀ : s.batch ≡ value m₀ bs = fields.0 ∙ p₀.0 in
-    let a₁ : s.nozzle ≡ value m₁ (after m₀ bs) = fields.1 ∙ p₁.0 ∙ ap (value m₁) e₁ in
-    let a₂ : s.plate ≡ value m₂ (after m₁ (after m₀ bs)) = fields.2 ∙ p₂.0 ∙ ap (value m₂) e₂ in
-    let a₃ : s.profile ≡ value m₃ (after m₂ (after m₁ (after m₀ bs))) = fields.3 ∙ p₃.0 ∙ ap (value m₃) e₃ in
+    let a₀ : s.batch ≡ field_in m₀ bs = (let e : s.batch ≡ f₀ = cc in e ∙ p₀.0) in
+    let a₁ : s.nozzle ≡ field_in m₁ (after m₀ bs) = (let e : s.nozzle ≡ f₁ = cc in e ∙ p₁.0 ∙ ap (field_in m₁) e₁) in
+    let a₂ : s.plate ≡ field_in m₂ (after m₁ (after m₀ bs)) = (let e : s.plate ≡ f₂ = cc in e ∙ p₂.0 ∙ ap (field_in m₂) e₂) in
+    let a₃ : s.profile ≡ field_in m₃ (after m₂ (after m₁ (after m₀ bs))) = (let e : s.profile ≡ f₃ = cc in e ∙ p₃.0 ∙ ap (field_in m₃) e₃) in
+    let same = mask_from mask s (omega arith) (ap is_some a₀ ∙ there_if m₀ _) (ap is_some a₁ ∙ there_if m₁ _) (ap is_some a₂ ∙ there_if m₂ _) (ap is_some a₃ ∙ there_if m₃ _) in
     let l₀ = p₀.2 in let l₁ = p₁.2 in let l₂ = p₂.2 in let l₃ = p₃.2 in
-    made ∙ settings_made mask bs s four (omega arith) (four_worth a₀ a₁ a₂ a₃)
+    let or_zero = λ (f : Option ℕ). unwrap_or f 0 in
+    settings_made mask bs s four (omega arith) same (four_worth (ap or_zero a₀) (ap or_zero a₁) (ap or_zero a₂) (ap or_zero a₃))

@@ -2,6 +2,7 @@
 use Rattle.std.specs.Prelude.{◌≡◌, ℕ, zero, suc, ◌+◌, ◌*◌, ◌/◌, ◌%◌, ◌^◌, ◌<◌, Bool, true, false, ◌&&◌, Some, None, Option, ◌==◌, nat_lt, is_some, if◌then◌else◌, refl}
 use Rattle.std.specs.Bool.{then_some}
 use Rattle.std.specs.Cmp.Derive.{both_true}
+use Rattle.std.specs.Int.{from_bool}
 use Rattle.std.specs.Option.{unwrap_or}
 use Rattle.std.proofs.Common.{sym, ap, ◌∙◌, arith}
 use Rattle.std.proofs.lemmas.Bool.{lt-ltb, ltb-true, eqb-true, true≢false}
@@ -21,10 +22,14 @@ flag_tells : (f : Option ℕ) (d : ℕ) → d ≡ flag f → (d == 1) ≡ is_som
 flag_tells None d is = ap (λ d. d == 1) is
 flag_tells (Some n) d is = ap (λ d. d == 1) is
 
-flag_digit : (d v : ℕ) → d < 2 → flag (then_some (d == 1) v) ≡ d
-flag_digit zero v small = refl
-flag_digit (suc zero) v small = refl
-flag_digit (suc (suc d)) v small = absurd (omega arith)
+flag_is : (f : Option ℕ) (d : ℕ) → d < 2 → is_some f ≡ (d == 1) → flag f ≡ d
+flag_is f zero small is = ap from_bool is
+flag_is f (suc zero) small is = ap from_bool is
+flag_is f (suc (suc d)) small is = absurd (omega arith)
+
+pub there_if : (has : Bool) (v : ℕ) → is_some (then_some has v) ≡ has
+there_if true v = refl
+there_if false v = refl
 
 -- a field's value, or 0, is bare, and gives the field back
 bare_back : (f : Option ℕ) (has : Bool) → has ≡ is_some f → (bare has (unwrap_or f 0) ≡ true) × (then_some has (unwrap_or f 0) ≡ f)
@@ -42,11 +47,18 @@ both : (a b : Bool) → (a && b) ≡ true → (a ≡ true) × (b ≡ true)
 both true b is = (refl, is)
 both false b is = absurd (true≢false (sym is))
 
-from_digits : (m a b c d : ℕ) → m < 16 → a ≡ m / 2 ^ 0 % 2 → b ≡ m / 2 ^ 1 % 2 → c ≡ m / 2 ^ 2 % 2 → d ≡ m / 2 ^ 3 % 2 → a + b * 2 + c * 4 + d * 8 ≡ m
-from_digits m a b c d h p q r s = omega arith
-
 pub mask_small : (s : Settings) → mask_of s < 16
 mask_small s = let b = flag_small s.batch in let n = flag_small s.nozzle in let p = flag_small s.plate in let q = flag_small s.profile in omega arith
+
+-- settings have no other mask than that of their fields
+pub mask_from : (mask : ℕ) (s : Settings) → mask < 16 →
+    is_some s.batch ≡ masked mask 0 → is_some s.nozzle ≡ masked mask 1 → is_some s.plate ≡ masked mask 2 → is_some s.profile ≡ masked mask 3 → mask_of s ≡ mask
+mask_from mask s four h₀ h₁ h₂ h₃ =
+    let b = flag_is s.batch (mask / 2 ^ 0 % 2) (omega arith) h₀ in
+    let n = flag_is s.nozzle (mask / 2 ^ 1 % 2) (omega arith) h₁ in
+    let p = flag_is s.plate (mask / 2 ^ 2 % 2) (omega arith) h₂ in
+    let q = flag_is s.profile (mask / 2 ^ 3 % 2) (omega arith) h₃ in
+    omega arith
 
 -- the mask has the fields that have a new value
 pub mask_has : (s : Settings) → (masked (mask_of s) 0 ≡ is_some s.batch) × (masked (mask_of s) 1 ≡ is_some s.nozzle) × (masked (mask_of s) 2 ≡ is_some s.plate) × (masked (mask_of s) 3 ≡ is_some s.profile)
@@ -73,8 +85,7 @@ settings_from mask values s is =
     let t₂ = both _ (bare (masked mask 1) values.nozzle) t₃.0 in
     let t₁ = both (nat_lt mask 16) (bare (masked mask 0) values.batch) t₂.0 in
     let four : mask < 16 = ltb-true mask 16 t₁.0 in
-    let m : mask_of (chosen mask values) ≡ mask =
-    from_digits mask _ _ _ _ four (flag_digit (mask / 2 ^ 0 % 2) values.batch (omega arith)) (flag_digit (mask / 2 ^ 1 % 2) values.nozzle (omega arith)) (flag_digit (mask / 2 ^ 2 % 2) values.plate (omega arith)) (flag_digit (mask / 2 ^ 3 % 2) values.profile (omega arith)) in
+    let m = mask_from mask (chosen mask values) four (there_if _ values.batch) (there_if _ values.nozzle) (there_if _ values.plate) (there_if _ values.profile) in
     let v : values_of (chosen mask values) ≡ values =
     same_setup _ values (value_back (masked mask 0) values.batch t₁.1) (value_back (masked mask 1) values.nozzle t₂.1) (value_back (masked mask 2) values.plate t₃.1) (value_back (masked mask 3) values.profile t₄.1) in
     (ap mask_of (sym made.1) ∙ m, ap values_of (sym made.1) ∙ v)

@@ -63,6 +63,21 @@ impl Settings {
     }
 }
 
+impl From<[Option<u16>; 4]> for Settings {
+    ghost from_gives = { λ fields settings. fields_of settings ≡ fields };
+
+    // The settings of fields 0 to 3, in order: the new value of each that has one.
+    fn from(fields: [Option<u16>; 4]) -> Settings {
+        let [batch, nozzle, plate, profile] = fields;
+        Settings {
+            batch,
+            nozzle,
+            plate,
+            profile,
+        }
+    }
+}
+
 // Whether a mask has a field.
 fn has(mask: u8, field: u32) -> bool
     requires { field < 4 }
