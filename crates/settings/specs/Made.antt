@@ -1,5 +1,5 @@
 -- `settings_of` gives the settings of a mask and values wherever there are any.
-use Rattle.std.specs.Prelude.{◌≡◌, ℕ, zero, suc, ◌+◌, ◌*◌, ◌/◌, ◌%◌, ◌^◌, ◌<◌, Bool, true, false, ◌&&◌, Some, None, Option, ◌==◌, nat_lt, is_some, if◌then◌else◌, refl}
+use Rattle.std.specs.Prelude.{◌≡◌, ℕ, zero, suc, ◌/◌, ◌%◌, ◌^◌, ◌<◌, Bool, true, false, ◌&&◌, Some, None, Option, ◌==◌, nat_lt, is_some, if◌then◌else◌, refl}
 use Rattle.std.specs.Bool.{then_some}
 use Rattle.std.specs.Cmp.Derive.{both_true}
 use Rattle.std.specs.Int.{from_bool}

@@ -3,7 +3,7 @@ use Rattle.std.specs.Prelude.{◌≡◌, ℕ, ◌/◌, ◌%◌, ◌^◌, ◌<◌
 use Rattle.std.proofs.Common.{sym, ap, ◌∙◌, arith, lt→ltb}
 use Rattle.words.specs.declared.EffectWords.{EffectWords}
 use Rattle.words.proofs.Giving.{given_passed, given_some, none_where, same_effect_words}
-use Rattle.settings.specs.Masks.{settings_of, values_of}
+use Rattle.settings.specs.Masks.{settings_of, mask_of, values_of}
 use Rattle.settings.specs.Packing.{setup_word, setup_of, settings_words, settings_read}
 use Rattle.settings.specs.declared.Setup.{Setup}
 use Rattle.settings.specs.declared.Settings.{Settings}
@@ -33,13 +33,13 @@ setup_back : (word : ℕ) (small : T (nat_lt word (2 ^ 64))) → setup_word (set
 setup_back word small = omega arith
 
 -- reading a mask and the word of values
-pub read_is : (w : EffectWords) (s : Setup) → setup_word s ≡ w.second → settings_of w.first s ≡ settings_read w
-read_is w s is =
-    let small = lt→ltb w.second (2 ^ 64) (rw (sym is) (setup_small s)) in
-    sym (given_passed (nat_lt w.second (2 ^ 64)) _ small ∙ ap (settings_of w.first) (setup_is w.second small s is))
+pub read_is : (mask : ℕ) (w : EffectWords) (s : Setup) → mask ≡ w.first → setup_word s ≡ w.second → settings_of mask s ≡ settings_read w
+read_is mask w s first second =
+    let small = lt→ltb w.second (2 ^ 64) (rw (sym second) (setup_small s)) in
+    sym (given_passed (nat_lt w.second (2 ^ 64)) _ small ∙ ap (settings_of w.first) (setup_is w.second small s second) ∙ ap (λ m. settings_of m s) (sym first))
 
 pub settings_reads_back : (s : Settings) → settings_read (settings_words s) ≡ Some s
-settings_reads_back s = sym (read_is (settings_words s) (values_of s) refl) ∙ settings_back s
+settings_reads_back s = sym (read_is (mask_of s) (settings_words s) (values_of s) refl refl) ∙ settings_back s
 
 pub settings_reads_only : (w : EffectWords) (s : Settings) → settings_read w ≡ Some s → settings_words s ≡ w
 settings_reads_only w s is =

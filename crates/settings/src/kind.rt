@@ -12,21 +12,22 @@ use super::{Settings, Setup};
 use effects::Effect;
 use words::{EffectWords, StateWords};
 
+// Methods and not `From`, which is no plainer: it would not say which number of a set-up is meant.
 impl Setup {
     // The fields one after the other, field 0 highest.
     fn to_word(self) -> u64
         ensures { result ≡ setup_word self }
     {
-        ((self.batch as u64) << 48)
-            + ((self.nozzle as u64) << 32)
-            + ((self.plate as u64) << 16)
-            + self.profile as u64
+        (u64::from(self.batch) << 48)
+            + (u64::from(self.nozzle) << 32)
+            + (u64::from(self.plate) << 16)
+            + u64::from(self.profile)
     }
 
     // The set-up of a word; every word is one's.
     fn from_word(word: u64) -> Setup
         ensures word { setup_word result ≡ word }
-        ensures read { (mask : ℕ) → settings_of mask result ≡ settings_read (record { first = mask; second = word }) }
+        ensures read { (mask : ℕ) (w : EffectWords) → mask ≡ w.first → word ≡ w.second → settings_of mask result ≡ settings_read w }
     {
         Setup {
             batch: (word >> 48) as u16,
@@ -115,10 +116,10 @@ impl Effect for Settings {
 
     #[tactic(auto, using(crate::specs::Words::reads_none))]
     fn from_words(stored: EffectWords) -> Option<Settings> {
-        if stored.first > 0x0f {
+        let Ok(mask) = u8::try_from(stored.first) else {
             return None;
-        }
-        Settings::new(stored.first as u8, Setup::from_word(stored.second))
+        };
+        Settings::new(mask, Setup::from_word(stored.second))
     }
 
     fn state_words(setup: Setup) -> StateWords {
