@@ -1,5 +1,5 @@
 -- Worked cases of the kinds and of the reference ledger, each a closed computation.
-use Rattle.std.specs.Prelude.{◌≡◌, ℕ, ◌^◌, true, false, ◌||◌, T, [], ℤ, pos, negsuc, neg_ℤ, ◌==◌, int_le, nat_le, nat_lt}
+use Rattle.std.specs.Prelude.{◌≡◌, ℕ, ◌^◌, true, false, T, [], ℤ, pos, negsuc, neg_ℤ, int_le, nat_le, nat_lt}
 use Rattle.std.proofs.Common.{lit<, lit≤}
 use Rattle.std.specs.Int.Signed.{le_z_yes, mag}
 use Rattle.counter.specs.declared.Level.{Level}
@@ -7,7 +7,7 @@ use Rattle.counter.specs.declared.Counter.{Counter}
 use Rattle.counter.specs.Counting as counting
 use Rattle.settings.specs.declared.Setup.{Setup}
 use Rattle.settings.specs.declared.Settings.{Settings}
-use Rattle.settings.specs.Masks.{masked}
+use Rattle.settings.specs.Masks.{chosen, proper}
 use Rattle.settings.specs.Overwriting as overwriting
 use Rattle.status.specs.declared.Event.TheVariants.{Pause, Resume}
 use Rattle.status.specs.Turns as turns
@@ -42,13 +42,8 @@ place job layer p q = record { job = job; layer = layer; jobs = lit< p; layers =
 abbrev setup : (batch nozzle plate profile : ℕ) → T (nat_lt batch 65536) → T (nat_lt nozzle 65536) → T (nat_lt plate 65536) → T (nat_lt profile 65536) → Setup
 setup batch nozzle plate profile p q r s = record { batch = batch; nozzle = nozzle; plate = plate; profile = profile; small = (lit< p, lit< q, lit< r, lit< s) }
 
-abbrev settings : (mask : ℕ) (values : Setup) → T (nat_lt mask 16) → T (masked mask 0 || values.batch == 0) → T (masked mask 1 || values.nozzle == 0) → T (masked mask 2 || values.plate == 0) → T (masked mask 3 || values.profile == 0) → Settings
-settings mask values m p q r s = record {
-  mask = mask;
-  values = values;
-  four = lit< m;
-  bare = (overwriting.bare_from (masked mask 0) values.batch p, overwriting.bare_from (masked mask 1) values.nozzle q, overwriting.bare_from (masked mask 2) values.plate r, overwriting.bare_from (masked mask 3) values.profile s);
-}
+abbrev settings : (mask : ℕ) (values : Setup) → T (proper mask values) → Settings
+settings mask values p = chosen mask values
 
 -- ---- beliefs of a counter on the clock
 
@@ -81,7 +76,7 @@ pub record Cases : Type 0 where
   -- where adding the 90,000 back would give 90,000
   pub second_withdrawn : left (without 2 spool) (clock 30 tt) ≡ 70000
   pub takings_compose : counting.joined (take 30000 tt tt) (take 90000 tt tt) ≡ counter (neg_ℤ (pos 120000)) 0 910000 tt tt tt tt
-  pub second_value_wins : overwriting.joined (settings 0x01 (setup 7 0 0 0 tt tt tt tt) tt tt tt tt tt) (settings 0x03 (setup 9 4 0 0 tt tt tt tt) tt tt tt tt tt) ≡ settings 0x03 (setup 9 4 0 0 tt tt tt tt) tt tt tt tt tt
+  pub second_value_wins : overwriting.joined (settings 0x01 (setup 7 0 0 0 tt tt tt tt) tt) (settings 0x03 (setup 9 4 0 0 tt tt tt tt) tt) ≡ settings 0x03 (setup 9 4 0 0 tt tt tt tt) tt
   pub pause_then_resume : turns.joined (event_transitions Pause) (event_transitions Resume) ≡ event_transitions Resume
   -- a raft layer comes before layer 0 of its job, and not the other way round
   pub raft_before : (place_upto (place 5 (negsuc 0) tt tt) (place 5 (pos 0) tt tt) ≡ true) × (place_upto (place 5 (pos 0) tt tt) (place 5 (negsuc 0) tt tt) ≡ false)

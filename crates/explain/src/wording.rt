@@ -90,31 +90,19 @@ impl fmt::Display for Words<Counter> {
     }
 }
 
-// The fields that settings overwrite, each with its value.
-fn settings_words<W: fmt::Write>(settings: Settings, f: &mut fmt::Formatter<W>) -> fmt::Result {
-    let (batch, nozzle, plate, profile) = settings.values().fields();
-    write!(f, "set")?;
-    if settings.mask() % 2 == 1 {
-        write!(f, " batch {batch}")?;
-    }
-    if (settings.mask() >> 1) % 2 == 1 {
-        write!(f, " nozzle {nozzle}")?;
-    }
-    if (settings.mask() >> 2) % 2 == 1 {
-        write!(f, " plate {plate}")?;
-    }
-    if (settings.mask() >> 3) % 2 == 1 {
-        write!(f, " profile {profile}")?;
-    }
-    if settings.mask() == 0 {
-        write!(f, " nothing")?;
-    }
-    Ok(())
-}
-
 impl fmt::Display for Words<Settings> {
     fn fmt<W: fmt::Write>(&self, f: &mut fmt::Formatter<W>) -> fmt::Result {
-        settings_words(self.0, f)
+        let names = ["batch", "nozzle", "plate", "profile"];
+        write!(f, "set")?;
+        for (name, field) in names.into_iter().zip(self.0.fields()) {
+            if let Some(value) = field {
+                write!(f, " {name} {value}")?;
+            }
+        }
+        if self.0.mask() == 0 {
+            write!(f, " nothing")?;
+        }
+        Ok(())
     }
 }
 

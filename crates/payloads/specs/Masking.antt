@@ -1,20 +1,25 @@
 -- Settings' bytes are read as they are, whatever follows them, and only they are.
-use Rattle.std.specs.Prelude.{◌≡◌, ℕ, zero, suc, ◌+◌, ◌*◌, ◌^◌, ◌<◌, ◌≤◌, Bool, true, false, T, List, [], ◌∷◌, ◌++◌, length, take, drop, Some, None, Option, nat_le, refl}
+use Rattle.std.specs.Prelude.{◌≡◌, ℕ, zero, suc, ◌+◌, ◌*◌, ◌^◌, ◌<◌, ◌≤◌, Bool, true, false, T, List, [], ◌∷◌, ◌++◌, length, take, drop, Some, None, Option, is_some, IfSome, nat_le, refl}
+use Rattle.std.specs.Option.{unwrap_or}
+use Rattle.std.specs.List.{flat_map}
+use Rattle.std.proofs.lemmas.Bool.{true≢false}
 use Rattle.std.proofs.Common.{sym, ap, ◌∙◌, append_assoc, arith, le→leb, leb→le, length-drop, length-append, take-append-drop}
 use Rattle.std.specs.Int.Bits.{bit_and}
 use Rattle.std.specs.Int.Count.{ones}
 use Rattle.std.specs.Int.Digits.{AllBelowBase}
 use Rattle.std.proofs.ByRecursion.{All-drop}
 use Rattle.words.specs.Given.{given}
-use Rattle.words.proofs.Giving.{given_passed, given_failed, given_some}
+use Rattle.words.proofs.Giving.{given_passed, given_failed, given_some, same_effect_words}
+use Rattle.big_endian.specs.Numbers.{bytes_of}
 use Rattle.big_endian.proofs.Numbering.{worth_bytes}
-use Rattle.settings.specs.Masks.{masked}
-use Rattle.settings.specs.Overwriting.{settings_of}
-use Rattle.settings.specs.Packing.{setup_word, settings_read}
+use Rattle.settings.specs.Overwriting.{fields_of}
+use Rattle.settings.specs.Masks.{masked, mask_of, values_of}
+use Rattle.settings.specs.Made.{mask_small, mask_has, mask_from, there_if}
+use Rattle.settings.specs.Packing.{setup_word, settings_words, settings_read}
 use Rattle.settings.specs.declared.Setup.{Setup}
 use Rattle.settings.specs.declared.Settings.{Settings}
-use Rattle.settings.specs.Words.{setup_apart, read_is, settings_reads_back, settings_reads_only, reads_none}
-use Rattle.payloads.specs.Setups.{width, field_bytes, value, after, settings_layout, settings_size, values_word, settings_in, settings_parsed}
+use Rattle.settings.specs.Words.{setup_apart, settings_reads_back, settings_reads_only, reads_none}
+use Rattle.payloads.specs.Setups.{width, field_bytes, field_in, value, after, settings_layout, settings_size, values_word, settings_in, settings_parsed}
 use Rattle.payloads.specs.Fronts.{front_back, front_below, begins}
 
 -- the bytes of all fields that a mask has
@@ -44,21 +49,22 @@ widths (suc (suc (suc (suc (suc (suc (suc (suc (suc (suc (suc (suc (suc (suc (su
 
 -- ---- one field
 
-length_field : (has : Bool) (v : ℕ) → length (field_bytes has v) ≡ width has
-length_field true v = refl
-length_field false v = refl
+length_field : (f : Option ℕ) (has : Bool) → has ≡ is_some f → length (field_bytes f) ≡ width has
+length_field None has is = rw is refl
+length_field (Some v) has is = rw is refl
 
-value_field : (has : Bool) (v : ℕ) (xs : List ℕ) → v < 65536 → (has ≡ false → v ≡ 0) → value has (field_bytes has v ++ xs) ≡ v
-value_field true v xs small bare = worth_bytes 2 v small
-value_field false v xs small bare = sym (bare refl)
+value_field : (f : Option ℕ) (has : Bool) (xs : List ℕ) → has ≡ is_some f → IfSome f (λ v. v < 65536) → value has (field_bytes f ++ xs) ≡ unwrap_or f 0
+value_field None has xs is small = rw is refl
+value_field (Some v) has xs is small = rw is (worth_bytes 2 v small)
 
-after_field : (has : Bool) (v : ℕ) (xs : List ℕ) → after has (field_bytes has v ++ xs) ≡ xs
-after_field true v xs = refl
-after_field false v xs = refl
+after_field : (f : Option ℕ) (has : Bool) (xs : List ℕ) → has ≡ is_some f → after has (field_bytes f ++ xs) ≡ xs
+after_field None has xs is = rw is refl
+after_field (Some v) has xs is = rw is refl
 
-field_back : (has : Bool) (bs : List ℕ) → AllBelowBase 256 bs → width has ≤ length bs → field_bytes has (value has bs) ++ after has bs ≡ bs
-field_back true bs u long = ap (λ l. l ++ drop 2 bs) (front_back 2 bs u long) ∙ take-append-drop 2 bs
-field_back false bs u long = refl
+field_back : (f : Option ℕ) (has : Bool) (bs : List ℕ) → has ≡ is_some f → unwrap_or f 0 ≡ value has bs → AllBelowBase 256 bs → width has ≤ length bs → field_bytes f ++ after has bs ≡ bs
+field_back None has bs is same u long = rw is refl
+field_back (Some v) false bs is same u long = absurd (true≢false (sym is))
+field_back (Some v) true bs is same u long = ap (λ w. bytes_of 2 w ++ drop 2 bs) same ∙ ap (λ l. l ++ drop 2 bs) (front_back 2 bs u long) ∙ take-append-drop 2 bs
 
 value_small : (has : Bool) (bs : List ℕ) → AllBelowBase 256 bs → width has ≤ length bs → value has bs < 65536
 value_small true bs u long = front_below 2 bs u long
@@ -74,27 +80,25 @@ under_after false bs u = u
 
 -- ---- all fields
 
-four_joined : (a b c d e : List ℕ) → (a ++ (b ++ (c ++ d))) ++ e ≡ a ++ (b ++ (c ++ (d ++ e)))
-four_joined a b c d e =
-    append_assoc a (b ++ (c ++ d)) e ∙ ap (λ l. a ++ l) (append_assoc b (c ++ d) e ∙ ap (λ l. b ++ l) (append_assoc c d e))
+four_joined : (a b c d e : List ℕ) → (a ++ (b ++ (c ++ (d ++ [])))) ++ e ≡ a ++ (b ++ (c ++ (d ++ e)))
+four_joined a b c d e = simp append_assoc
 
-length_layout : (s : Settings) → length (settings_layout s) ≡ 1 + widths_of s.mask
+four_back : (a b c d x₀ x₁ x₂ x₃ x₄ : List ℕ) → a ++ x₁ ≡ x₀ → b ++ x₂ ≡ x₁ → c ++ x₃ ≡ x₂ → d ++ x₄ ≡ x₃ → (a ++ (b ++ (c ++ (d ++ [])))) ++ x₄ ≡ x₀
+four_back a b c d x₀ x₁ x₂ x₃ x₄ p q r s = four_joined a b c d x₄ ∙ ap (λ l. a ++ (b ++ (c ++ l))) s ∙ ap (λ l. a ++ (b ++ l)) r ∙ ap (λ l. a ++ l) q ∙ p
+
+length_layout : (s : Settings) → length (settings_layout s) ≡ 1 + widths_of (mask_of s)
 length_layout s =
-    let f₀ = field_bytes (masked s.mask 0) s.values.batch in
-    let f₁ = field_bytes (masked s.mask 1) s.values.nozzle in
-    let f₂ = field_bytes (masked s.mask 2) s.values.plate in
-    let f₃ = field_bytes (masked s.mask 3) s.values.profile in
-    let a = length-append f₀ (f₁ ++ (f₂ ++ f₃)) in
-    let b = length-append f₁ (f₂ ++ f₃) in
-    let c = length-append f₂ f₃ in
-    let l₀ = length_field (masked s.mask 0) s.values.batch in
-    let l₁ = length_field (masked s.mask 1) s.values.nozzle in
-    let l₂ = length_field (masked s.mask 2) s.values.plate in
-    let l₃ = length_field (masked s.mask 3) s.values.profile in
+    let f₀ = field_bytes s.batch in let f₁ = field_bytes s.nozzle in let f₂ = field_bytes s.plate in let f₃ = field_bytes s.profile in
+    let a = length-append f₀ (f₁ ++ (f₂ ++ (f₃ ++ []))) in
+    let b = length-append f₁ (f₂ ++ (f₃ ++ [])) in
+    let c = length-append f₂ (f₃ ++ []) in
+    let d = length-append f₃ [] in
+    let has = mask_has s in
+    let l₀ = length_field s.batch _ has.0 in let l₁ = length_field s.nozzle _ has.1 in let l₂ = length_field s.plate _ has.2 in let l₃ = length_field s.profile _ has.3 in
     omega arith
 
 pub settings_sized : (s : Settings) (rest : List ℕ) → settings_size (settings_layout s ++ rest) ≡ length (settings_layout s)
-settings_sized s rest = let w = widths s.mask s.four in let l = length_layout s in omega arith
+settings_sized s rest = let w = widths (mask_of s) (mask_small s) in let l = length_layout s in omega arith
 
 width_most : (has : Bool) → width has ≤ 2
 width_most true = omega arith
@@ -103,43 +107,40 @@ width_most false = omega arith
 pub settings_short : (s : Settings) → length (settings_layout s) ≤ 23
 settings_short s =
     let l = length_layout s in
-    let a = width_most (masked s.mask 0) in let b = width_most (masked s.mask 1) in let c = width_most (masked s.mask 2) in let d = width_most (masked s.mask 3) in
+    let a = width_most (masked (mask_of s) 0) in let b = width_most (masked (mask_of s) 1) in let c = width_most (masked (mask_of s) 2) in let d = width_most (masked (mask_of s) 3) in
     omega arith
 
 four_worth : {a b c d a' b' c' d' : ℕ} → a ≡ a' → b ≡ b' → c ≡ c' → d ≡ d' → a * 2 ^ 48 + b * 2 ^ 32 + c * 2 ^ 16 + d ≡ a' * 2 ^ 48 + b' * 2 ^ 32 + c' * 2 ^ 16 + d'
 four_worth p q r t = omega arith
 
 -- the values of settings at the start of their bytes
-values_again : (s : Settings) (rest : List ℕ) → values_word s.mask
-    (field_bytes (masked s.mask 0) s.values.batch ++ (field_bytes (masked s.mask 1) s.values.nozzle ++ (field_bytes (masked s.mask 2) s.values.plate ++ (field_bytes (masked s.mask 3) s.values.profile ++ rest))))
-    ≡ setup_word s.values
+values_again : (s : Settings) (rest : List ℕ) →
+    values_word (mask_of s) (field_bytes s.batch ++ (field_bytes s.nozzle ++ (field_bytes s.plate ++ (field_bytes s.profile ++ rest)))) ≡ setup_word (values_of s)
 values_again s rest =
-    let m₀ = masked s.mask 0 in let m₁ = masked s.mask 1 in let m₂ = masked s.mask 2 in let m₃ = masked s.mask 3 in
-    let v = s.values in
-    let x₃ = field_bytes m₃ v.profile ++ rest in
-    let x₂ = field_bytes m₂ v.plate ++ x₃ in
-    let x₁ = field_bytes m₁ v.nozzle ++ x₂ in
-    let x₀ = field_bytes m₀ v.batch ++ x₁ in
-    let e₁ : after m₀ x₀ ≡ x₁ = after_field m₀ v.batch x₁ in
-    let e₂ : after m₁ (after m₀ x₀) ≡ x₂ = ap (after m₁) e₁ ∙ after_field m₁ v.nozzle x₂ in
-    let e₃ : after m₂ (after m₁ (after m₀ x₀)) ≡ x₃ = ap (after m₂) e₂ ∙ after_field m₂ v.plate x₃ in
-    let v₀ : value m₀ x₀ ≡ v.batch = value_field m₀ v.batch x₁ v.small.0 s.bare.0 in
-    let v₁ : value m₁ (after m₀ x₀) ≡ v.nozzle = ap (value m₁) e₁ ∙ value_field m₁ v.nozzle x₂ v.small.1 s.bare.1 in
-    let v₂ : value m₂ (after m₁ (after m₀ x₀)) ≡ v.plate = ap (value m₂) e₂ ∙ value_field m₂ v.plate x₃ v.small.2 s.bare.2 in
-    let v₃ : value m₃ (after m₂ (after m₁ (after m₀ x₀))) ≡ v.profile = ap (value m₃) e₃ ∙ value_field m₃ v.profile rest v.small.3 s.bare.3 in
+    let m₀ = masked (mask_of s) 0 in let m₁ = masked (mask_of s) 1 in let m₂ = masked (mask_of s) 2 in let m₃ = masked (mask_of s) 3 in
+    let has = mask_has s in
+    let x₃ = field_bytes s.profile ++ rest in
+    let x₂ = field_bytes s.plate ++ x₃ in
+    let x₁ = field_bytes s.nozzle ++ x₂ in
+    let x₀ = field_bytes s.batch ++ x₁ in
+    let e₁ : after m₀ x₀ ≡ x₁ = after_field s.batch m₀ x₁ has.0 in
+    let e₂ : after m₁ (after m₀ x₀) ≡ x₂ = ap (after m₁) e₁ ∙ after_field s.nozzle m₁ x₂ has.1 in
+    let e₃ : after m₂ (after m₁ (after m₀ x₀)) ≡ x₃ = ap (after m₂) e₂ ∙ after_field s.plate m₂ x₃ has.2 in
+    let v₀ = value_field s.batch m₀ x₁ has.0 s.small.0 in
+    let v₁ = ap (value m₁) e₁ ∙ value_field s.nozzle m₁ x₂ has.1 s.small.1 in
+    let v₂ = ap (value m₂) e₂ ∙ value_field s.plate m₂ x₃ has.2 s.small.2 in
+    let v₃ = ap (value m₃) e₃ ∙ value_field s.profile m₃ rest has.3 s.small.3 in
     four_worth v₀ v₁ v₂ v₃
 
 pub settings_again : (s : Settings) (rest : List ℕ) → settings_parsed (settings_layout s ++ rest) ≡ Some s
 settings_again s rest =
-    let m₀ = masked s.mask 0 in let m₁ = masked s.mask 1 in let m₂ = masked s.mask 2 in let m₃ = masked s.mask 3 in
-    let v = s.values in
-    let body = field_bytes m₀ v.batch ++ (field_bytes m₁ v.nozzle ++ (field_bytes m₂ v.plate ++ field_bytes m₃ v.profile)) in
+    let body = flat_map field_bytes (fields_of s) in
     let whole = length-append body rest in
     let l = length_layout s in
-    let w = widths s.mask s.four in
-    let joined = four_joined (field_bytes m₀ v.batch) (field_bytes m₁ v.nozzle) (field_bytes m₂ v.plate) (field_bytes m₃ v.profile) rest in
-    given_passed (nat_le (2 * ones (bit_and s.mask 15)) (length (body ++ rest))) _ (le→leb (2 * ones (bit_and s.mask 15)) (length (body ++ rest)) (omega arith))
-    ∙ ap (λ n. settings_read (record { first = s.mask; second = n })) (ap (values_word s.mask) joined ∙ values_again s rest) ∙ settings_reads_back s
+    let w = widths (mask_of s) (mask_small s) in
+    let joined = four_joined (field_bytes s.batch) (field_bytes s.nozzle) (field_bytes s.plate) (field_bytes s.profile) rest in
+    given_passed (nat_le (2 * ones (bit_and (mask_of s) 15)) (length (body ++ rest))) _ (le→leb (2 * ones (bit_and (mask_of s) 15)) (length (body ++ rest)) (omega arith))
+    ∙ ap (λ n. settings_read (record { first = mask_of s; second = n })) (ap (values_word (mask_of s)) joined ∙ values_again s rest) ∙ settings_reads_back s
 
 pub settings_exact : (bs : List ℕ) (s : Settings) → AllBelowBase 256 bs → settings_parsed bs ≡ Some s → settings_layout s ≡ take (settings_size bs) bs
 settings_exact [] s u is = let z : ◌≡◌ {A = ℕ} 0 1 = cc in absurd (omega arith)
@@ -147,8 +148,8 @@ settings_exact (mask ∷ bs) s u is =
     let read = given_some (nat_le (2 * ones (bit_and mask 15)) (length bs)) _ s is in
     let long = leb→le (2 * ones (bit_and mask 15)) (length bs) read.0 in
     let words = settings_reads_only (record { first = mask; second = values_word mask bs }) s read.1 in
-    let same : s.mask ≡ mask = ap (λ w. w.first) words in
-    let four : mask < 16 = let h = s.four in omega arith in
+    let same : mask_of s ≡ mask = ap (λ w. w.first) words in
+    let four : mask < 16 = let h = mask_small s in omega arith in
     let w = widths mask four in
     let m₀ = masked mask 0 in let m₁ = masked mask 1 in let m₂ = masked mask 2 in let m₃ = masked mask 3 in
     let b₁ = after m₀ bs in let b₂ = after m₁ b₁ in let b₃ = after m₂ b₂ in let b₄ = after m₃ b₃ in
@@ -167,15 +168,17 @@ settings_exact (mask ∷ bs) s u is =
       profile = value m₃ b₃;
       small = (value_small m₀ bs u₀ n₀, value_small m₁ b₁ u₁ n₁, value_small m₂ b₂ u₂ n₂, value_small m₃ b₃ u₃ n₃);
     } in
-    let setup : s.values ≡ values = setup_apart s.values values (ap (λ x. x.second) words) in
-    let laid = λ (m : ℕ) (v : Setup). m ∷ (field_bytes (masked m 0) v.batch ++ (field_bytes (masked m 1) v.nozzle ++ (field_bytes (masked m 2) v.plate ++ field_bytes (masked m 3) v.profile))) in
-    let whole : settings_layout s ++ b₄ ≡ mask ∷ bs =
-    ap (λ v. laid s.mask v ++ b₄) setup ∙ ap (λ m. laid m values ++ b₄) same
-    ∙ ap (λ l. mask ∷ l) (four_joined (field_bytes m₀ (value m₀ bs)) (field_bytes m₁ (value m₁ b₁)) (field_bytes m₂ (value m₂ b₂)) (field_bytes m₃ (value m₃ b₃)) b₄
-    ∙ ap (λ l. field_bytes m₀ (value m₀ bs) ++ (field_bytes m₁ (value m₁ b₁) ++ (field_bytes m₂ (value m₂ b₂) ++ l))) (field_back m₃ b₃ u₃ n₃)
-    ∙ ap (λ l. field_bytes m₀ (value m₀ bs) ++ (field_bytes m₁ (value m₁ b₁) ++ l)) (field_back m₂ b₂ u₂ n₂)
-    ∙ ap (λ l. field_bytes m₀ (value m₀ bs) ++ l) (field_back m₁ b₁ u₁ n₁)
-    ∙ field_back m₀ bs u₀ n₀) in
+    let setup : values_of s ≡ values = setup_apart (values_of s) values (ap (λ x. x.second) words) in
+    let has = mask_has s in
+    let h₀ : m₀ ≡ is_some s.batch = ap (λ m. masked m 0) (sym same) ∙ has.0 in
+    let h₁ : m₁ ≡ is_some s.nozzle = ap (λ m. masked m 1) (sym same) ∙ has.1 in
+    let h₂ : m₂ ≡ is_some s.plate = ap (λ m. masked m 2) (sym same) ∙ has.2 in
+    let h₃ : m₃ ≡ is_some s.profile = ap (λ m. masked m 3) (sym same) ∙ has.3 in
+    let body : flat_map field_bytes (fields_of s) ++ b₄ ≡ bs =
+    four_back (field_bytes s.batch) (field_bytes s.nozzle) (field_bytes s.plate) (field_bytes s.profile) bs b₁ b₂ b₃ b₄
+    (field_back s.batch m₀ bs h₀ (ap (λ v. v.batch) {y = values} setup) u₀ n₀) (field_back s.nozzle m₁ b₁ h₁ (ap (λ v. v.nozzle) {y = values} setup) u₁ n₁)
+    (field_back s.plate m₂ b₂ h₂ (ap (λ v. v.plate) {y = values} setup) u₂ n₂) (field_back s.profile m₃ b₃ h₃ (ap (λ v. v.profile) {y = values} setup) u₃ n₃) in
+    let whole : settings_layout s ++ b₄ ≡ mask ∷ bs = ap (λ m. m ∷ (flat_map field_bytes (fields_of s) ++ b₄)) same ∙ ap (λ l. mask ∷ l) body in
     begins (settings_layout s) b₄ (mask ∷ bs) (settings_size (mask ∷ bs)) whole (sym (settings_sized s b₄) ∙ ap settings_size whole)
 
 -- ---- the exits of the reading function
@@ -192,10 +195,12 @@ too_short mask bs four short =
     let w = widths mask (omega arith) in
     sym (given_failed (nat_le (2 * ones (bit_and mask 15)) (length bs)) _ (λ p. let h = leb→le (2 * ones (bit_and mask 15)) (length bs) p in omega arith))
 
-pub settings_made : (mask : ℕ) (bs : List ℕ) (s : Setup) → mask ≤ 15 → widths_of mask ≤ length bs → setup_word s ≡ values_word mask bs → settings_of mask s ≡ settings_in mask bs
-settings_made mask bs s four long word =
+pub settings_made : (mask : ℕ) (bs : List ℕ) (s : Settings) → mask ≤ 15 → widths_of mask ≤ length bs → mask_of s ≡ mask → setup_word (values_of s) ≡ values_word mask bs → Some s ≡ settings_in mask bs
+settings_made mask bs s four long same word =
     let w = widths mask (omega arith) in
-    read_is (record { first = mask; second = values_word mask bs }) s word ∙ sym (given_passed (nat_le (2 * ones (bit_and mask 15)) (length bs)) _ (le→leb (2 * ones (bit_and mask 15)) (length bs) (omega arith)))
+    let words = same_effect_words (settings_words s) (record { first = mask; second = values_word mask bs }) same word in
+    sym (settings_reads_back s) ∙ ap settings_read words
+    ∙ sym (given_passed (nat_le (2 * ones (bit_and mask 15)) (length bs)) _ (le→leb (2 * ones (bit_and mask 15)) (length bs) (omega arith)))
 
 module _ (mask : ℕ) (bs : List ℕ) (four : mask ≤ 15) where
   pub short_at_0 : length bs < width (masked mask 0) → None ≡ settings_in mask bs
@@ -212,54 +217,23 @@ module _ (mask : ℕ) (bs : List ℕ) (four : mask ≤ 15) where
       pub short_at_3 : (r₃ : List ℕ) → length r₃ + width (masked mask 2) ≡ length r₂ → length r₃ < width (masked mask 3) → None ≡ settings_in mask bs
       short_at_3 r₃ l₃ short = too_short mask bs four (omega arith)
 
--- what was split off of bytes: a value v and the bytes r after it
-abbrev Split : Bool → List ℕ → ℕ → List ℕ → Type 0
-Split has bs v r = (v ≡ value has bs) × (r ≡ after has bs) × (length r + width has ≡ length bs)
+-- what was split off of bytes: a field f and the bytes r after it
+abbrev Split : Bool → List ℕ → Option ℕ → List ℕ → Type 0
+Split has bs f r = (f ≡ field_in has bs) × (r ≡ after has bs) × (length r + width has ≡ length bs)
 
-pub settings_whole : (mask : ℕ) (bs r₁ r₂ r₃ r₄ : List ℕ) (v₀ v₁ v₂ v₃ : ℕ) (s : Setup) (r : Option Settings) → mask ≤ 15 →
-    Split (masked mask 0) bs v₀ r₁ → Split (masked mask 1) r₁ v₁ r₂ → Split (masked mask 2) r₂ v₂ r₃ → Split (masked mask 3) r₃ v₃ r₄ →
-    (s.batch ≡ v₀) × (s.nozzle ≡ v₁) × (s.plate ≡ v₂) × (s.profile ≡ v₃) → r ≡ settings_of mask s → r ≡ settings_in mask bs
-settings_whole mask bs r₁ r₂ r₃ r₄ v₀ v₁ v₂ v₃ s r four p₀ p₁ p₂ p₃ fields made =
+pub settings_whole : (mask : ℕ) (bs r₁ r₂ r₃ r₄ : List ℕ) (f₀ f₁ f₂ f₃ : Option ℕ) (s : Settings) → mask ≤ 15 →
+    Split (masked mask 0) bs f₀ r₁ → Split (masked mask 1) r₁ f₁ r₂ → Split (masked mask 2) r₂ f₂ r₃ → Split (masked mask 3) r₃ f₃ r₄ →
+    fields_of s ≡ f₀ ∷ f₁ ∷ f₂ ∷ f₃ ∷ [] → Some s ≡ settings_in mask bs
+settings_whole mask bs r₁ r₂ r₃ r₄ f₀ f₁ f₂ f₃ s four p₀ p₁ p₂ p₃ fields =
     let m₀ = masked mask 0 in let m₁ = masked mask 1 in let m₂ = masked mask 2 in let m₃ = masked mask 3 in
     let e₁ : r₁ ≡ after m₀ bs = p₀.1 in
     let e₂ : r₂ ≡ after m₁ (after m₀ bs) = p₁.1 ∙ ap (after m₁) e₁ in
     let e₃ : r₃ ≡ after m₂ (after m₁ (after m₀ bs)) = p₂.1 ∙ ap (after m₂) e₂ in
-    let a₀ : s.batch ≡ value m₀ bs = fields.0 ∙ p₀.0 in
-    let a₁ : s.nozzle ≡ value m₁ (after m₀ bs) = fields.1 ∙ p₁.0 ∙ ap (value m₁) e₁ in
-    let a₂ : s.plate ≡ value m₂ (after m₁ (after m₀ bs)) = fields.2 ∙ p₂.0 ∙ ap (value m₂) e₂ in
-    let a₃ : s.profile ≡ value m₃ (after m₂ (after m₁ (after m₀ bs))) = fields.3 ∙ p₃.0 ∙ ap (value m₃) e₃ in
+    let a₀ : s.batch ≡ field_in m₀ bs = (let e : s.batch ≡ f₀ = cc in e ∙ p₀.0) in
+    let a₁ : s.nozzle ≡ field_in m₁ (after m₀ bs) = (let e : s.nozzle ≡ f₁ = cc in e ∙ p₁.0 ∙ ap (field_in m₁) e₁) in
+    let a₂ : s.plate ≡ field_in m₂ (after m₁ (after m₀ bs)) = (let e : s.plate ≡ f₂ = cc in e ∙ p₂.0 ∙ ap (field_in m₂) e₂) in
+    let a₃ : s.profile ≡ field_in m₃ (after m₂ (after m₁ (after m₀ bs))) = (let e : s.profile ≡ f₃ = cc in e ∙ p₃.0 ∙ ap (field_in m₃) e₃) in
+    let same = mask_from mask s (omega arith) (ap is_some a₀ ∙ there_if m₀ _) (ap is_some a₁ ∙ there_if m₁ _) (ap is_some a₂ ∙ there_if m₂ _) (ap is_some a₃ ∙ there_if m₃ _) in
     let l₀ = p₀.2 in let l₁ = p₁.2 in let l₂ = p₂.2 in let l₃ = p₃.2 in
-    made ∙ settings_made mask bs s four (omega arith) (four_worth a₀ a₁ a₂ a₃)
-
--- five parts appended one after the other
-appended_five : (e₀ e₁ e₂ e₃ e₄ e₅ : List ℕ) (m : ℕ) (f₀ f₁ f₂ f₃ : List ℕ) → e₁ ≡ e₀ ++ (m ∷ []) → e₂ ≡ e₁ ++ f₀ → e₃ ≡ e₂ ++ f₁ → e₄ ≡ e₃ ++ f₂ → e₅ ≡ e₄ ++ f₃ → e₅ ≡ e₀ ++ (m ∷ (f₀ ++ (f₁ ++ (f₂ ++ f₃))))
-appended_five e₀ e₁ e₂ e₃ e₄ e₅ m f₀ f₁ f₂ f₃ p q r s t =
-    t ∙ ap (λ l. l ++ f₃) (s ∙ ap (λ l. l ++ f₂) (r ∙ ap (λ l. l ++ f₁) (q ∙ ap (λ l. l ++ f₀) p)))
-    ∙ ap (λ l. ((l ++ f₁) ++ f₂) ++ f₃) (append_assoc e₀ (m ∷ []) f₀)
-    ∙ ap (λ l. (l ++ f₂) ++ f₃) (append_assoc e₀ (m ∷ f₀) f₁)
-    ∙ ap (λ l. l ++ f₃) (append_assoc e₀ (m ∷ (f₀ ++ f₁)) f₂)
-    ∙ append_assoc e₀ (m ∷ ((f₀ ++ f₁) ++ f₂)) f₃
-    ∙ ap (λ l. e₀ ++ (m ∷ l)) (append_assoc (f₀ ++ f₁) f₂ f₃ ∙ append_assoc f₀ f₁ (f₂ ++ f₃))
-
-same_laid : (m a b c d m' a' b' c' d' : ℕ) → m ≡ m' → a ≡ a' → b ≡ b' → c ≡ c' → d ≡ d' →
-    m ∷ (field_bytes (masked m 0) a ++ (field_bytes (masked m 1) b ++ (field_bytes (masked m 2) c ++ field_bytes (masked m 3) d)))
-    ≡ m' ∷ (field_bytes (masked m' 0) a' ++ (field_bytes (masked m' 1) b' ++ (field_bytes (masked m' 2) c' ++ field_bytes (masked m' 3) d')))
-same_laid m a b c d m' a' b' c' d' p q r s t =
-    let laid = λ (m a b c d : ℕ). m ∷ (field_bytes (masked m 0) a ++ (field_bytes (masked m 1) b ++ (field_bytes (masked m 2) c ++ field_bytes (masked m 3) d))) in
-    ap (λ x. laid x a b c d) p ∙ ap (λ x. laid m' x b c d) q ∙ ap (λ x. laid m' a' x c d) r ∙ ap (λ x. laid m' a' b' x d) s ∙ ap (λ x. laid m' a' b' c' x) t
-
--- mask and fields appended one after the other, with the lengths so far
-pub settings_appended : (s : Settings) (m a b c d : ℕ) (e₀ e₁ e₂ e₃ e₄ e₅ : List ℕ) (n₀ n₁ n₂ n₃ n₄ n₅ : ℕ) →
-    m ≡ s.mask → a ≡ s.values.batch → b ≡ s.values.nozzle → c ≡ s.values.plate → d ≡ s.values.profile →
-    e₁ ≡ e₀ ++ (m ∷ []) → e₂ ≡ e₁ ++ field_bytes (masked m 0) a → e₃ ≡ e₂ ++ field_bytes (masked m 1) b → e₄ ≡ e₃ ++ field_bytes (masked m 2) c → e₅ ≡ e₄ ++ field_bytes (masked m 3) d →
-    n₁ ≡ n₀ + 1 → n₂ ≡ n₁ + width (masked m 0) → n₃ ≡ n₂ + width (masked m 1) → n₄ ≡ n₃ + width (masked m 2) → n₅ ≡ n₄ + width (masked m 3) →
-    (e₅ ≡ e₀ ++ settings_layout s) × (n₅ ≡ n₀ + length (settings_layout s))
-settings_appended s m a b c d e₀ e₁ e₂ e₃ e₄ e₅ n₀ n₁ n₂ n₃ n₄ n₅ mask f₀ f₁ f₂ f₃ i₁ i₂ i₃ i₄ i₅ l₁ l₂ l₃ l₄ l₅ =
-    let l = length_layout s in
-    let w : widths_of m ≡ widths_of s.mask = ap widths_of mask in (
-      appended_five e₀ e₁ e₂ e₃ e₄ e₅ m _ _ _ _ i₁ i₂ i₃ i₄ i₅ ∙ ap (λ x. e₀ ++ x) (same_laid m a b c d _ _ _ _ _ mask f₀ f₁ f₂ f₃),
-      lengths n₀ n₁ n₂ n₃ n₄ n₅ (width (masked m 0)) (width (masked m 1)) (width (masked m 2)) (width (masked m 3)) (widths_of s.mask) (length (settings_layout s)) w l l₁ l₂ l₃ l₄ l₅,
-    )
-  where
-    lengths : (n₀ n₁ n₂ n₃ n₄ n₅ a b c d w l : ℕ) → a + (b + (c + d)) ≡ w → l ≡ 1 + w → n₁ ≡ n₀ + 1 → n₂ ≡ n₁ + a → n₃ ≡ n₂ + b → n₄ ≡ n₃ + c → n₅ ≡ n₄ + d → n₅ ≡ n₀ + l
-    lengths n₀ n₁ n₂ n₃ n₄ n₅ a b c d w l p q r s t u v = omega arith
+    let or_zero = λ (f : Option ℕ). unwrap_or f 0 in
+    settings_made mask bs s four (omega arith) same (four_worth (ap or_zero a₀) (ap or_zero a₁) (ap or_zero a₂) (ap or_zero a₃))

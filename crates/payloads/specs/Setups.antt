@@ -1,34 +1,40 @@
 -- The payload of settings: the mask, then a value of 2 bytes for each field that it has, in the order of the fields.
-use Rattle.std.specs.Prelude.{◌≡◌, ℕ, ◌+◌, ◌*◌, ◌^◌, ◌<◌, Bool, cond, List, [], ◌∷◌, ◌++◌, length, take, drop, Some, None, Option, bit_and, count_ones, nat_le}
+use Rattle.std.specs.Prelude.{◌≡◌, ℕ, ◌+◌, ◌*◌, ◌^◌, ◌<◌, Bool, cond, List, [], ◌∷◌, length, take, drop, Some, None, Option, bit_and, count_ones, nat_le}
 use Rattle.std.specs.Borrow.{Bor}
+use Rattle.std.specs.Bool.{then_some}
+use Rattle.std.specs.List.{flat_map}
+use Rattle.std.specs.Option.{unwrap_or}
 use Rattle.words.specs.Given.{given}
 use Rattle.big_endian.specs.Numbers.{bytes_of, worth}
-use Rattle.settings.specs.Masks.{masked}
+use Rattle.settings.specs.Overwriting.{fields_of}
+use Rattle.settings.specs.Masks.{masked, mask_of}
 use Rattle.settings.specs.Packing.{settings_read}
 use Rattle.settings.specs.declared.Settings.{Settings}
 
--- Of a field that the mask has or lacks: how many bytes it has, its bytes, its value at the start of bytes, and the bytes after it.
+-- the bytes of a field: those of its value, where it has one
+abbrev pub field_bytes : Option ℕ → List ℕ
+field_bytes None = []
+field_bytes (Some value) = bytes_of 2 value
+
+-- Of a field that the mask has or lacks: how many bytes it has, what it is at the start of bytes, its value there or 0, and the bytes after it.
 abbrev pub width : Bool → ℕ
 width has = cond has 2 0
 
-abbrev pub field_bytes : Bool → ℕ → List ℕ
-field_bytes has value = cond has (bytes_of 2 value) []
+abbrev pub field_in : Bool → List ℕ → Option ℕ
+field_in has bs = then_some has (worth (take 2 bs))
 
 abbrev pub value : Bool → List ℕ → ℕ
-value has bs = cond has (worth (take 2 bs)) 0
+value has bs = unwrap_or (field_in has bs) 0
 
 abbrev pub after : Bool → List ℕ → List ℕ
 after has bs = cond has (drop 2 bs) bs
 
-abbrev pub Splits : Bool → List ℕ → Option (ℕ × Bor (List ℕ)) → Type 0
+abbrev pub Splits : Bool → List ℕ → Option (Option ℕ × Bor (List ℕ)) → Type 0
 Splits has bs None = length bs < width has
-Splits has bs (Some p) = (p.0 ≡ value has bs) × (p.1.now ≡ after has bs) × (length p.1.now + width has ≡ length bs)
+Splits has bs (Some p) = (p.0 ≡ field_in has bs) × (p.1.now ≡ after has bs) × (length p.1.now + width has ≡ length bs)
 
 abbrev pub settings_layout : Settings → List ℕ
-settings_layout s =
-    s.mask
-    ∷ (field_bytes (masked s.mask 0) s.values.batch
-    ++ (field_bytes (masked s.mask 1) s.values.nozzle ++ (field_bytes (masked s.mask 2) s.values.plate ++ field_bytes (masked s.mask 3) s.values.profile)))
+settings_layout s = mask_of s ∷ flat_map field_bytes (fields_of s)
 
 -- the mask, and two bytes for each one bit among its low four; bytes too few to hold a mask are too few for any
 abbrev pub settings_size : List ℕ → ℕ

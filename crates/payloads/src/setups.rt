@@ -1,35 +1,35 @@
 // The payload of settings: the mask, and a value for each field that it has.
-ghost use Rattle.std.specs.Prelude.{◌≡◌, ◌+◌, ◌<◌, ◌≤◌, ◌++◌};
+ghost use Rattle.std.specs.Prelude.{◌≡◌, ◌+◌, ◌<◌, ◌≤◌, ◌++◌, length};
 ghost use Rattle.digits.specs.Held.{contents};
 ghost use Rattle.settings.specs.Masks.{masked};
-ghost use Rattle.payloads.specs.Setups.{width, field_bytes, Splits, settings_layout, settings_size, settings_in, settings_parsed};
+ghost use Rattle.payloads.specs.Setups.{field_bytes, Splits, settings_layout, settings_size, settings_in, settings_parsed};
 ghost use Rattle.payloads.specs.Masking.{settings_short, settings_sized, settings_again, settings_exact};
 
 use crate::payload::Payload;
 use big_endian::{split_u16, u16_bytes};
 use digits::Bytes;
-use settings::{Settings, Setup};
+use settings::Settings;
 
-// The value of a field and the bytes after it, where the mask has the field; else 0 and all bytes.
-fn split_field(mask: u8, field: u32, bytes: &[u8]) -> Option<(u16, &[u8])>
+// A field and the bytes after it: its value where the mask has the field, and else none and all bytes.
+fn split_field(mask: u8, field: u32, bytes: &[u8]) -> Option<(Option<u16>, &[u8])>
     requires { field < 4 }
     ensures { Splits (masked mask field) bytes.now result }
 {
     if (mask >> field) % 2 == 1 {
-        split_u16(bytes)
+        let (value, rest) = split_u16(bytes)?;
+        Some((Some(value), rest))
     } else {
-        Some((0, bytes))
+        Some((None, bytes))
     }
 }
 
-// Appends the value of a field, where the mask has it and there is room.
-fn append_field(mask: u8, field: u32, value: u16, out: &mut Bytes)
-    requires place { field < 4 }
-    requires room { out.old.len + width (masked mask field) ≤ 32 }
-    ensures items { contents out.new ≡ contents out.old ++ field_bytes (masked mask field) value }
-    ensures len { out.new.len ≡ out.old.len + width (masked mask field) }
+// Appends the bytes of a field, where there is room for them.
+fn append_field(field: Option<u16>, out: &mut Bytes)
+    requires { out.old.len + length (field_bytes field) ≤ 32 }
+    ensures items { contents out.new ≡ contents out.old ++ field_bytes field }
+    ensures len { out.new.len ≡ out.old.len + length (field_bytes field) }
 {
-    if (mask >> field) % 2 == 1 {
+    if let Some(value) = field {
         out.append(&u16_bytes(value));
     }
 }
@@ -45,7 +45,7 @@ fn settings_in(mask: u8, bytes: &[u8]) -> Option<Settings>
     let (nozzle, rest) = split_field(mask, 1, rest)?;
     let (plate, rest) = split_field(mask, 2, rest)?;
     let (profile, _) = split_field(mask, 3, rest)?;
-    Settings::new(mask, Setup::new(batch, nozzle, plate, profile))
+    Some(Settings::from([batch, nozzle, plate, profile]))
 }
 
 impl Payload for Settings {
@@ -85,12 +85,9 @@ impl Payload for Settings {
     }
 
     fn append(form: Settings, out: &mut Bytes) {
-        let mask = form.mask();
-        let (batch, nozzle, plate, profile) = form.values().fields();
-        out.push(mask);
-        append_field(mask, 0, batch, out);
-        append_field(mask, 1, nozzle, out);
-        append_field(mask, 2, plate, out);
-        append_field(mask, 3, profile, out);
+        out.push(form.mask());
+        for field in form.fields() {
+            append_field(field, out);
+        }
     }
 }

@@ -1,43 +1,91 @@
 -- `settings_of` gives the settings of a mask and values wherever there are any.
-use Rattle.std.specs.Prelude.{◌≡◌, ℕ, Bool, true, false, ◌||◌, T, Some, None, Option, ◌==◌, nat_lt, refl}
-use Rattle.std.proofs.Common.{sym, ap, ◌∙◌, lt→ltb, eq-eqb}
-use Rattle.words.proofs.Giving.{given_passed, given_some, none_where, some_same}
-use Rattle.settings.specs.Masks.{masked}
-use Rattle.settings.specs.Overwriting.{Proper, settings_of}
+use Rattle.std.specs.Prelude.{◌≡◌, ℕ, zero, suc, ◌/◌, ◌%◌, ◌^◌, ◌<◌, Bool, true, false, ◌&&◌, Some, None, Option, ◌==◌, nat_lt, is_some, if◌then◌else◌, refl}
+use Rattle.std.specs.Bool.{then_some}
+use Rattle.std.specs.Cmp.Derive.{both_true}
+use Rattle.std.specs.Int.{from_bool}
+use Rattle.std.specs.Option.{unwrap_or}
+use Rattle.std.proofs.Common.{sym, ap, ◌∙◌, arith}
+use Rattle.std.proofs.lemmas.Bool.{lt-ltb, ltb-true, eqb-true, true≢false}
+use Rattle.std.proofs.lemmas.Option.{cond_some}
+use Rattle.settings.specs.Masks.{masked, bare, flag, mask_of, values_of, chosen, proper, settings_of}
 use Rattle.settings.specs.declared.Setup.{Setup}
 use Rattle.settings.specs.declared.Settings.{Settings}
-use Rattle.settings.specs.Sames.{same_settings}
+use Rattle.settings.specs.Sames.{same_setup, same_settings}
 
--- the test that a value is bare where its field is not masked
-bare_test : (b : Bool) (n : ℕ) → (b ≡ false → n ≡ 0) → T (b || n == 0)
-bare_test true n bare = tt
-bare_test false n bare = rw (eq-eqb n 0 (bare refl)) tt
+-- ---- one field
 
-pub settings_back : (s : Settings) → settings_of s.mask s.values ≡ Some s
+flag_small : (f : Option ℕ) → flag f < 2
+flag_small None = omega arith
+flag_small (Some n) = omega arith
+
+flag_tells : (f : Option ℕ) (d : ℕ) → d ≡ flag f → (d == 1) ≡ is_some f
+flag_tells None d is = ap (λ d. d == 1) is
+flag_tells (Some n) d is = ap (λ d. d == 1) is
+
+flag_is : (f : Option ℕ) (d : ℕ) → d < 2 → is_some f ≡ (d == 1) → flag f ≡ d
+flag_is f zero small is = ap from_bool is
+flag_is f (suc zero) small is = ap from_bool is
+flag_is f (suc (suc d)) small is = absurd (omega arith)
+
+pub there_if : (has : Bool) (v : ℕ) → is_some (then_some has v) ≡ has
+there_if true v = refl
+there_if false v = refl
+
+-- a field's value, or 0, is bare, and gives the field back
+bare_back : (f : Option ℕ) (has : Bool) → has ≡ is_some f → (bare has (unwrap_or f 0) ≡ true) × (then_some has (unwrap_or f 0) ≡ f)
+bare_back None has is = rw is (refl, refl)
+bare_back (Some n) has is = rw is (refl, refl)
+
+-- a bare value is what its field gives
+value_back : (has : Bool) (v : ℕ) → bare has v ≡ true → unwrap_or (then_some has v) 0 ≡ v
+value_back true v passed = refl
+value_back false v passed = sym (eqb-true v 0 passed)
+
+-- ---- four fields
+
+both : (a b : Bool) → (a && b) ≡ true → (a ≡ true) × (b ≡ true)
+both true b is = (refl, is)
+both false b is = absurd (true≢false (sym is))
+
+pub mask_small : (s : Settings) → mask_of s < 16
+mask_small s = let b = flag_small s.batch in let n = flag_small s.nozzle in let p = flag_small s.plate in let q = flag_small s.profile in omega arith
+
+-- settings have no other mask than that of their fields
+pub mask_from : (mask : ℕ) (s : Settings) → mask < 16 →
+    is_some s.batch ≡ masked mask 0 → is_some s.nozzle ≡ masked mask 1 → is_some s.plate ≡ masked mask 2 → is_some s.profile ≡ masked mask 3 → mask_of s ≡ mask
+mask_from mask s four h₀ h₁ h₂ h₃ =
+    let b = flag_is s.batch (mask / 2 ^ 0 % 2) (omega arith) h₀ in
+    let n = flag_is s.nozzle (mask / 2 ^ 1 % 2) (omega arith) h₁ in
+    let p = flag_is s.plate (mask / 2 ^ 2 % 2) (omega arith) h₂ in
+    let q = flag_is s.profile (mask / 2 ^ 3 % 2) (omega arith) h₃ in
+    omega arith
+
+-- the mask has the fields that have a new value
+pub mask_has : (s : Settings) → (masked (mask_of s) 0 ≡ is_some s.batch) × (masked (mask_of s) 1 ≡ is_some s.nozzle) × (masked (mask_of s) 2 ≡ is_some s.plate) × (masked (mask_of s) 3 ≡ is_some s.profile)
+mask_has s =
+    let b = flag_small s.batch in let n = flag_small s.nozzle in let p = flag_small s.plate in let q = flag_small s.profile in
+    (flag_tells s.batch _ (omega arith), flag_tells s.nozzle _ (omega arith), flag_tells s.plate _ (omega arith), flag_tells s.profile _ (omega arith))
+
+pub settings_back : (s : Settings) → settings_of (mask_of s) (values_of s) ≡ Some s
 settings_back s =
-    given_passed (nat_lt s.mask 16) _ (lt→ltb s.mask 16 s.four)
-    ∙ given_passed (masked s.mask 0 || s.values.batch == 0) _ (bare_test (masked s.mask 0) s.values.batch s.bare.0)
-    ∙ given_passed (masked s.mask 1 || s.values.nozzle == 0) _ (bare_test (masked s.mask 1) s.values.nozzle s.bare.1)
-    ∙ given_passed (masked s.mask 2 || s.values.plate == 0) _ (bare_test (masked s.mask 2) s.values.plate s.bare.2)
-    ∙ given_passed (masked s.mask 3 || s.values.profile == 0) _ (bare_test (masked s.mask 3) s.values.profile s.bare.3)
-    ∙ ap Some (same_settings _ s refl refl)
+    let has = mask_has s in
+    let b = bare_back s.batch (masked (mask_of s) 0) has.0 in
+    let n = bare_back s.nozzle (masked (mask_of s) 1) has.1 in
+    let p = bare_back s.plate (masked (mask_of s) 2) has.2 in
+    let q = bare_back s.profile (masked (mask_of s) 3) has.3 in
+    ap (λ test. if test then Some (chosen (mask_of s) (values_of s)) else None)
+    (both_true (both_true (both_true (both_true (lt-ltb (mask_of s) 16 (mask_small s)) b.0) n.0) p.0) q.0)
+    ∙ ap Some (same_settings _ s b.1 n.1 p.1 q.1)
 
-pub settings_from : (mask : ℕ) (values : Setup) (s : Settings) → settings_of mask values ≡ Some s → (s.mask ≡ mask) × (s.values ≡ values)
+pub settings_from : (mask : ℕ) (values : Setup) (s : Settings) → settings_of mask values ≡ Some s → (mask_of s ≡ mask) × (values_of s ≡ values)
 settings_from mask values s is =
-    let one = given_some (nat_lt mask 16) _ s is in
-    let two = given_some (masked mask 0 || values.batch == 0) _ s one.1 in
-    let three = given_some (masked mask 1 || values.nozzle == 0) _ s two.1 in
-    let four = given_some (masked mask 2 || values.plate == 0) _ s three.1 in
-    let five = given_some (masked mask 3 || values.profile == 0) _ s four.1 in
-    let same = sym (some_same five.1) in
-    (ap (λ t. t.mask) same, ap (λ t. t.values) same)
-
--- r holds the settings of a mask and values, or is none where there are none such
-abbrev pub IsSettings : ℕ → Setup → Option Settings → Type 0
-IsSettings mask values None = Proper mask values → ⊥
-IsSettings mask values (Some s) = (s.mask ≡ mask) × (s.values ≡ values)
-
-pub settings_is : (mask : ℕ) (values : Setup) (r : Option Settings) → IsSettings mask values r → r ≡ settings_of mask values
-settings_is mask values None never =
-    sym (none_where _ (λ s is. let e = settings_from mask values s is in let b = rw (e.0, e.1) at s.bare in never (rw e.0 at s.four, b.0, b.1, b.2, b.3)))
-settings_is mask values (Some s) is = sym (ap (λ m. settings_of m values) (sym is.0) ∙ ap (settings_of s.mask) (sym is.1) ∙ settings_back s)
+    let made = cond_some (proper mask values) (chosen mask values) s is in
+    let t₄ = both _ (bare (masked mask 3) values.profile) made.0 in
+    let t₃ = both _ (bare (masked mask 2) values.plate) t₄.0 in
+    let t₂ = both _ (bare (masked mask 1) values.nozzle) t₃.0 in
+    let t₁ = both (nat_lt mask 16) (bare (masked mask 0) values.batch) t₂.0 in
+    let four : mask < 16 = ltb-true mask 16 t₁.0 in
+    let m = mask_from mask (chosen mask values) four (there_if _ values.batch) (there_if _ values.nozzle) (there_if _ values.plate) (there_if _ values.profile) in
+    let v : values_of (chosen mask values) ≡ values =
+    same_setup _ values (value_back (masked mask 0) values.batch t₁.1) (value_back (masked mask 1) values.nozzle t₂.1) (value_back (masked mask 2) values.plate t₃.1) (value_back (masked mask 3) values.profile t₄.1) in
+    (ap mask_of (sym made.1) ∙ m, ap values_of (sym made.1) ∙ v)

@@ -1,89 +1,61 @@
--- Settings, and what they do to a set-up.
-use Rattle.std.specs.Prelude.{◌≡◌, ℕ, zero, suc, ◌/◌, ◌%◌, ◌^◌, ◌<◌, Bool, true, false, cond, ◌||◌, T, Some, Option, ◌==◌, bit_or, nat_eq, nat_lt, refl}
-use Rattle.std.proofs.Common.{sym, ap, ◌∙◌, arith, eqb→eq, lit<}
-use Rattle.std.proofs.lemmas.Nat.{or_lt, or_shr, or_mod}
-use Rattle.std.proofs.lemmas.Bool.{true≢false}
-use Rattle.words.specs.Given.{given}
-use Rattle.settings.specs.Masks.{masked, over}
+-- What settings do to a set-up.
+use Rattle.std.specs.Prelude.{◌≡◌, ℕ, ◌<◌, IfSome, List, [], ◌∷◌, Some, None, Option, refl}
+use Rattle.std.specs.Option.{unwrap_or, option_or}
+use Rattle.std.proofs.Common.{lit<}
 use Rattle.settings.specs.declared.Setup.{Setup}
 use Rattle.settings.specs.declared.Settings.{Settings}
 
--- what all settings keep: a mask 00 to 0f, and values that are 0 where it has no field
-abbrev pub Proper : ℕ → Setup → Type 0
-Proper mask values = (mask < 16) × (masked mask 0 ≡ false → values.batch ≡ 0) × (masked mask 1 ≡ false → values.nozzle ≡ 0) × (masked mask 2 ≡ false → values.plate ≡ 0) × (masked mask 3 ≡ false → values.profile ≡ 0)
-
-pub bare_from : (b : Bool) (n : ℕ) → T (b || n == 0) → b ≡ false → n ≡ 0
-bare_from true n passed off = absurd (true≢false off)
-bare_from false n passed off = eqb→eq n 0 passed
-
--- the settings of a mask and values, or none where these are not proper
-abbrev pub settings_of : ℕ → Setup → Option Settings
-settings_of mask values =
-    given (nat_lt mask 16) (λ four. given (masked mask 0 || values.batch == 0) (λ p. given (masked mask 1 || values.nozzle == 0) (λ q. given (masked mask 2 || values.plate == 0) (λ r. given (masked mask 3 || values.profile == 0) (λ s.
-    Some (record {
-      mask = mask;
-      values = values;
-      four = lit< four;
-      bare = (bare_from (masked mask 0) values.batch p, bare_from (masked mask 1) values.nozzle q, bare_from (masked mask 2) values.plate r, bare_from (masked mask 3) values.profile s);
-    }))))))
+-- fields 0 to 3, in order
+abbrev pub fields_of : Settings → List (Option ℕ)
+fields_of s = s.batch ∷ s.nozzle ∷ s.plate ∷ s.profile ∷ []
 
 -- the start
 abbrev pub all_zero : Setup
 all_zero = record { batch = 0; nozzle = 0; plate = 0; profile = 0; small = (lit< tt, lit< tt, lit< tt, lit< tt) }
 
-pub over_small : (mask i : ℕ) {new old : ℕ} → new < 65536 → old < 65536 → over mask i new old < 65536
-over_small mask i {new} {old} p q = elim (masked mask i) as (λ b. cond b new old < 65536) [ true ↦ p | false ↦ q ]
+pub over_small : (new : Option ℕ) {old : ℕ} → IfSome new (λ n. n < 65536) → old < 65536 → unwrap_or new old < 65536
+over_small None p q = q
+over_small (Some n) p q = p
 
--- settings acting on a set-up
+-- settings acting on a set-up: the new value of a field, where there is one, and else the old
 abbrev pub overwritten : Settings → Setup → Setup
 overwritten s old = record {
-  batch = over s.mask 0 s.values.batch old.batch;
-  nozzle = over s.mask 1 s.values.nozzle old.nozzle;
-  plate = over s.mask 2 s.values.plate old.plate;
-  profile = over s.mask 3 s.values.profile old.profile;
+  batch = unwrap_or s.batch old.batch;
+  nozzle = unwrap_or s.nozzle old.nozzle;
+  plate = unwrap_or s.plate old.plate;
+  profile = unwrap_or s.profile old.profile;
   small = (
-    over_small s.mask 0 s.values.small.0 old.small.0,
-    over_small s.mask 1 s.values.small.1 old.small.1,
-    over_small s.mask 2 s.values.small.2 old.small.2,
-    over_small s.mask 3 s.values.small.3 old.small.3,
+    over_small s.batch s.small.0 old.small.0,
+    over_small s.nozzle s.small.1 old.small.1,
+    over_small s.plate s.small.2 old.small.2,
+    over_small s.profile s.small.3 old.small.3,
   );
 }
 
 -- no change
 abbrev pub no_settings : Settings
-no_settings = record { mask = 0; values = all_zero; four = lit< tt; bare = ((λ _. refl), (λ _. refl), (λ _. refl), (λ _. refl)) }
+no_settings = record { batch = None; nozzle = None; plate = None; profile = None; small = (tt, tt, tt, tt) }
 
-digit_or : (a b : ℕ) → a < 2 → b < 2 → (bit_or a b == 1) ≡ (a == 1 || b == 1)
-digit_or zero b p q = refl
-digit_or (suc zero) zero p q = refl
-digit_or (suc zero) (suc zero) p q = refl
-digit_or (suc zero) (suc (suc b)) p q = absurd (omega arith)
-digit_or (suc (suc a)) b p q = absurd (omega arith)
+pub or_small : (new old : Option ℕ) → IfSome new (λ n. n < 65536) → IfSome old (λ n. n < 65536) → IfSome (option_or new old) (λ n. n < 65536)
+or_small None old p q = q
+or_small (Some n) old p q = p
 
-pub masked_or : (m n i : ℕ) → masked (bit_or m n) i ≡ (masked m i || masked n i)
-masked_or m n i =
-    ap (λ d. nat_eq (d % 2) 1) (or_shr m n i) ∙ ap (λ d. nat_eq d 1) (or_mod (m / 2 ^ i) (n / 2 ^ i) 1)
-    ∙ digit_or (m / 2 ^ i % 2) (n / 2 ^ i % 2) (omega arith) (omega arith)
-
-bare_or : (a b : Bool) (x y : ℕ) → (a ≡ false → x ≡ 0) → (b ≡ false → y ≡ 0) → (a || b) ≡ false → cond b y x ≡ 0
-bare_or true b x y p q h = absurd (true≢false h)
-bare_or false true x y p q h = absurd (true≢false h)
-bare_or false false x y p q h = p refl
-
--- a field that neither mask has is 0 in both
-pub over_bare : (m n i x y : ℕ) → (masked m i ≡ false → x ≡ 0) → (masked n i ≡ false → y ≡ 0) → masked (bit_or m n) i ≡ false → over n i y x ≡ 0
-over_bare m n i x y p q h = bare_or (masked m i) (masked n i) x y p q (sym (masked_or m n i) ∙ h)
-
--- first f, then g: the masks are joined, and g's value wins
+-- first f, then g: g's value wins
 abbrev pub joined : Settings → Settings → Settings
 joined f g = record {
-  mask = bit_or f.mask g.mask;
-  values = overwritten g f.values;
-  four = or_lt 4 f.mask g.mask f.four g.four;
-  bare = (
-    over_bare f.mask g.mask 0 f.values.batch g.values.batch f.bare.0 g.bare.0,
-    over_bare f.mask g.mask 1 f.values.nozzle g.values.nozzle f.bare.1 g.bare.1,
-    over_bare f.mask g.mask 2 f.values.plate g.values.plate f.bare.2 g.bare.2,
-    over_bare f.mask g.mask 3 f.values.profile g.values.profile f.bare.3 g.bare.3,
+  batch = option_or g.batch f.batch;
+  nozzle = option_or g.nozzle f.nozzle;
+  plate = option_or g.plate f.plate;
+  profile = option_or g.profile f.profile;
+  small = (
+    or_small g.batch f.batch g.small.0 f.small.0,
+    or_small g.nozzle f.nozzle g.small.1 f.small.1,
+    or_small g.plate f.plate g.small.2 f.small.2,
+    or_small g.profile f.profile g.small.3 f.small.3,
   );
 }
+
+-- a field's new value out of both is what the second makes of the first's
+pub or_in_turn : (f g : Option ℕ) (n : ℕ) → unwrap_or (option_or g f) n ≡ unwrap_or g (unwrap_or f n)
+or_in_turn f None n = refl
+or_in_turn f (Some m) n = refl

@@ -4,7 +4,7 @@ use Rattle.std.proofs.Common.{arith, ltb→lt}
 use Rattle.words.specs.Given.{given}
 use Rattle.words.specs.declared.EffectWords.{EffectWords}
 use Rattle.words.specs.declared.StateWords.{StateWords}
-use Rattle.settings.specs.Overwriting.{settings_of}
+use Rattle.settings.specs.Masks.{settings_of, mask_of, values_of}
 use Rattle.settings.specs.declared.Setup.{Setup}
 use Rattle.settings.specs.declared.Settings.{Settings}
 
@@ -27,7 +27,7 @@ setup_of word small = record {
 
 -- the mask, then the values, 0 where unmasked
 abbrev pub settings_words : Settings → EffectWords
-settings_words s = record { first = s.mask; second = setup_word s.values }
+settings_words s = record { first = mask_of s; second = setup_word (values_of s) }
 
 -- the settings that words are those of, or none
 abbrev pub settings_read : EffectWords → Option Settings

@@ -3,12 +3,12 @@ use Rattle.std.specs.Prelude.{◌≡◌, ℕ, ◌/◌, ◌%◌, ◌^◌, ◌<◌
 use Rattle.std.proofs.Common.{sym, ap, ◌∙◌, arith, lt→ltb}
 use Rattle.words.specs.declared.EffectWords.{EffectWords}
 use Rattle.words.proofs.Giving.{given_passed, given_some, none_where, same_effect_words}
-use Rattle.settings.specs.Overwriting.{settings_of}
+use Rattle.settings.specs.Masks.{settings_of, mask_of, values_of}
 use Rattle.settings.specs.Packing.{setup_word, setup_of, settings_words, settings_read}
 use Rattle.settings.specs.declared.Setup.{Setup}
 use Rattle.settings.specs.declared.Settings.{Settings}
 use Rattle.settings.specs.Sames.{same_setup}
-use Rattle.settings.specs.Made.{settings_back, settings_from}
+use Rattle.settings.specs.Made.{mask_small, settings_back, settings_from}
 
 setup_small : (s : Setup) → setup_word s < 2 ^ 64
 setup_small s = omega (arith, s.small.0, s.small.1, s.small.2, s.small.3)
@@ -33,13 +33,13 @@ setup_back : (word : ℕ) (small : T (nat_lt word (2 ^ 64))) → setup_word (set
 setup_back word small = omega arith
 
 -- reading a mask and the word of values
-pub read_is : (w : EffectWords) (s : Setup) → setup_word s ≡ w.second → settings_of w.first s ≡ settings_read w
-read_is w s is =
-    let small = lt→ltb w.second (2 ^ 64) (rw (sym is) (setup_small s)) in
-    sym (given_passed (nat_lt w.second (2 ^ 64)) _ small ∙ ap (settings_of w.first) (setup_is w.second small s is))
+pub read_is : (mask : ℕ) (w : EffectWords) (s : Setup) → mask ≡ w.first → setup_word s ≡ w.second → settings_of mask s ≡ settings_read w
+read_is mask w s first second =
+    let small = lt→ltb w.second (2 ^ 64) (rw (sym second) (setup_small s)) in
+    sym (given_passed (nat_lt w.second (2 ^ 64)) _ small ∙ ap (settings_of w.first) (setup_is w.second small s second) ∙ ap (λ m. settings_of m s) (sym first))
 
 pub settings_reads_back : (s : Settings) → settings_read (settings_words s) ≡ Some s
-settings_reads_back s = sym (read_is (settings_words s) s.values refl) ∙ settings_back s
+settings_reads_back s = sym (read_is (mask_of s) (settings_words s) (values_of s) refl refl) ∙ settings_back s
 
 pub settings_reads_only : (w : EffectWords) (s : Settings) → settings_read w ≡ Some s → settings_words s ≡ w
 settings_reads_only w s is =
@@ -49,4 +49,4 @@ settings_reads_only w s is =
 
 -- a mask above 0f is no settings'
 pub reads_none : (w : EffectWords) → 15 < w.first → None ≡ settings_read w
-reads_none w above = sym (none_where _ (λ s is. let mask = ap (λ v. v.first) (settings_reads_only w s is) in let four = s.four in omega arith))
+reads_none w above = sym (none_where _ (λ s is. let mask = ap (λ v. v.first) (settings_reads_only w s is) in let small = mask_small s in omega arith))

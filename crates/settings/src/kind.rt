@@ -1,47 +1,33 @@
 // What settings do to a set-up, and the words of both.
-ghost use Rattle.std.specs.Prelude.{◌≡◌, ◌<◌, Some, None, MatchBool, MatchOption, bit_or, refl};
+ghost use Rattle.std.specs.Prelude.{◌≡◌, ℕ, refl};
 ghost use Rattle.std.proofs.Common.{ap};
 ghost use Rattle.words.specs.declared.EffectWords.{EffectWords};
-ghost use Rattle.settings.specs.declared.Setup.{Setup};
-ghost use Rattle.settings.specs.declared.Settings.{Settings};
-ghost use Rattle.settings.specs.Masks.{over};
-ghost use Rattle.settings.specs.Overwriting.{Proper, settings_of, all_zero, overwritten, no_settings, joined};
+ghost use Rattle.settings.specs.Masks.{settings_of};
+ghost use Rattle.settings.specs.Overwriting.{all_zero, overwritten, no_settings, joined, or_in_turn};
 ghost use Rattle.settings.specs.Packing.{setup_word, settings_words, settings_read, setup_words};
 ghost use Rattle.settings.specs.Sames.{same_setup};
-ghost use Rattle.settings.specs.Fields.{over_twice};
 ghost use Rattle.settings.specs.Words.{settings_reads_back, settings_reads_only, setup_apart};
 
 use super::{Settings, Setup};
 use effects::Effect;
 use words::{EffectWords, StateWords};
 
+// Methods and not `From`, which is no plainer: it would not say which number of a set-up is meant.
 impl Setup {
-    // The set-up of four fields; there is one only.
-    fn exactly(batch: u16, nozzle: u16, plate: u16, profile: u16) -> Setup
-        ensures fields { (result.batch ≡ batch) × (result.nozzle ≡ nozzle) × (result.plate ≡ plate) × (result.profile ≡ profile) }
-        ensures same { (s : Setup) → (batch ≡ s.batch) × (nozzle ≡ s.nozzle) × (plate ≡ s.plate) × (profile ≡ s.profile) → result ≡ s }
-    {
-        Setup {
-            batch,
-            nozzle,
-            plate,
-            profile,
-        }
-    }
-
     // The fields one after the other, field 0 highest.
     fn to_word(self) -> u64
         ensures { result ≡ setup_word self }
     {
-        ((self.batch as u64) << 48)
-            + ((self.nozzle as u64) << 32)
-            + ((self.plate as u64) << 16)
-            + self.profile as u64
+        (u64::from(self.batch) << 48)
+            + (u64::from(self.nozzle) << 32)
+            + (u64::from(self.plate) << 16)
+            + u64::from(self.profile)
     }
 
     // The set-up of a word; every word is one's.
     fn from_word(word: u64) -> Setup
-        ensures { setup_word result ≡ word }
+        ensures word { setup_word result ≡ word }
+        ensures read { (mask : ℕ) (w : EffectWords) → mask ≡ w.first → word ≡ w.second → settings_of mask result ≡ settings_read w }
     {
         Setup {
             batch: (word >> 48) as u16,
@@ -50,96 +36,6 @@ impl Setup {
             profile: (word % 65536) as u16,
         }
     }
-}
-
-impl Settings {
-    // Whether there are settings of this mask and these values.
-    fn exist(mask: u8, values: Setup) -> bool
-        ensures { MatchBool result (Proper mask values) (settings_of mask values ≡ None) }
-    {
-        if mask > 0x0f
-            || (mask % 2 == 0 && values.batch != 0)
-            || ((mask >> 1) % 2 == 0 && values.nozzle != 0)
-            || ((mask >> 2) % 2 == 0 && values.plate != 0)
-            || ((mask >> 3) % 2 == 0 && values.profile != 0)
-        {
-            return false;
-        }
-        true
-    }
-
-    // The settings of a mask and values, of which there are some.
-    fn exactly(mask: u8, values: Setup) -> Settings
-        requires { Proper mask values }
-        ensures same { (s : Settings) → mask ≡ s.mask → values ≡ s.values → result ≡ s }
-        ensures made { Some result ≡ settings_of mask values }
-    {
-        Settings { mask, values }
-    }
-
-    // The settings that overwrite the fields of a mask with 0.
-    fn zeros(mask: u8) -> Settings
-        requires { mask < 16 }
-        ensures { mask ≡ 0 → result ≡ no_settings }
-    {
-        Settings::exactly(mask, Settings::start_state())
-    }
-
-    pub fn new(mask: u8, values: Setup) -> Option<Settings>
-        ensures { result ≡ settings_of mask values }
-    {
-        if Settings::exist(mask, values) {
-            Some(Settings::exactly(mask, values))
-        } else {
-            None
-        }
-    }
-
-    // The settings of joined masks over the values that the second leaves of the first's.
-    fn of_both(first: Settings, second: Settings, values: Setup) -> Settings
-        requires { values ≡ overwritten second first.values }
-        ensures { result ≡ joined first second }
-    {
-        Settings {
-            mask: join_masks(first.mask, second.mask),
-            values,
-        }
-    }
-
-    // The settings that are kept as a mask and a word of values.
-    fn from_parts(mask: u8, word: u64) -> Option<Settings>
-        ensures { (w : EffectWords) → (mask ≡ w.first) × (word ≡ w.second) → result ≡ settings_read w }
-    {
-        Settings::new(mask, Setup::from_word(word))
-    }
-
-    // The new value where the mask has the field, and else the old.
-    fn choose(self, field: u32, new: u16, old: u16) -> u16
-        requires { field < 4 }
-        ensures { result ≡ over self.mask field new old }
-    {
-        if (self.mask >> field) % 2 == 1 {
-            new
-        } else {
-            old
-        }
-    }
-}
-
-fn join_masks(first: u8, second: u8) -> u8
-    ensures { result ≡ bit_or first second }
-{
-    first | second
-}
-
-// A first word as a mask, where it is one.
-fn mask_of(first: u64) -> Option<u8>
-    ensures { MatchOption result ((w : EffectWords) → w.first ≡ first → settings_read w ≡ None) (λ mask. mask ≡ first) }
-{
-    if first > 0x0f {
-        return None;
-    }
-    Some(first as u8)
 }
 
 impl Effect for Settings {
@@ -163,10 +59,10 @@ impl Effect for Settings {
 
     ghost follows = { λ f g s.
         same_setup _ _
-        (over_twice f.mask g.mask 0 f.values.batch g.values.batch s.batch)
-        (over_twice f.mask g.mask 1 f.values.nozzle g.values.nozzle s.nozzle)
-        (over_twice f.mask g.mask 2 f.values.plate g.values.plate s.plate)
-        (over_twice f.mask g.mask 3 f.values.profile g.values.profile s.profile) };
+        (or_in_turn f.batch g.batch s.batch)
+        (or_in_turn f.nozzle g.nozzle s.nozzle)
+        (or_in_turn f.plate g.plate s.plate)
+        (or_in_turn f.profile g.profile s.profile) };
 
     ghost back = { λ f. settings_reads_back f };
 
@@ -175,36 +71,55 @@ impl Effect for Settings {
     ghost states = { λ s t is. setup_apart s t (ap (λ w. w.first) is) };
 
     fn start_state() -> Setup {
-        Setup::exactly(0, 0, 0, 0)
+        Setup {
+            batch: 0,
+            nozzle: 0,
+            plate: 0,
+            profile: 0,
+        }
     }
 
     fn no_change() -> Settings {
-        Settings::zeros(0x00)
+        Settings {
+            batch: None,
+            nozzle: None,
+            plate: None,
+            profile: None,
+        }
     }
 
     fn act(self, setup: Setup) -> Setup {
-        Setup::exactly(
-            self.choose(0, self.values.batch, setup.batch),
-            self.choose(1, self.values.nozzle, setup.nozzle),
-            self.choose(2, self.values.plate, setup.plate),
-            self.choose(3, self.values.profile, setup.profile),
-        )
+        Setup {
+            batch: self.batch.unwrap_or(setup.batch),
+            nozzle: self.nozzle.unwrap_or(setup.nozzle),
+            plate: self.plate.unwrap_or(setup.plate),
+            profile: self.profile.unwrap_or(setup.profile),
+        }
     }
 
-    // The masks are joined, and the second's value wins.
+    // The second's value wins.
     fn compose(self, second: Settings) -> Settings {
-        Settings::of_both(self, second, second.act(self.values))
+        Settings {
+            batch: second.batch.or(self.batch),
+            nozzle: second.nozzle.or(self.nozzle),
+            plate: second.plate.or(self.plate),
+            profile: second.profile.or(self.profile),
+        }
     }
 
     fn to_words(self) -> EffectWords {
         EffectWords {
-            first: self.mask as u64,
-            second: self.values.to_word(),
+            first: u64::from(self.mask()),
+            second: self.values().to_word(),
         }
     }
 
+    #[tactic(auto, using(crate::specs::Words::reads_none))]
     fn from_words(stored: EffectWords) -> Option<Settings> {
-        Settings::from_parts(mask_of(stored.first)?, stored.second)
+        let Ok(mask) = u8::try_from(stored.first) else {
+            return None;
+        };
+        Settings::new(mask, Setup::from_word(stored.second))
     }
 
     fn state_words(setup: Setup) -> StateWords {

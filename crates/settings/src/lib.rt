@@ -1,8 +1,8 @@
 // The settings, a kind of effect: what a printer is set up with.
 #![tactic(auto)]
 
-ghost use Rattle.std.specs.Prelude.{◌≡◌, ◌<◌, false};
-ghost use Rattle.settings.specs.Masks.{masked};
+ghost use Rattle.std.specs.Prelude.{◌<◌, IfSome};
+ghost use Rattle.std.proofs.Props.{props};
 
 mod kind;
 mod parts;
@@ -19,11 +19,12 @@ pub struct Setup {
     ghost small: { (batch < 65536) × (nozzle < 65536) × (plate < 65536) × (profile < 65536) },
 }
 
-// Overwrites the fields of its mask, in which 2^i stands for field i, with its values. A value that is not masked is 0.
+// New values for fields of a set-up; a field without one stays as it is.
 #[derive(Clone, Copy)]
 pub struct Settings {
-    mask: u8,
-    values: Setup,
-    ghost four: { mask < 16 },
-    ghost bare: { (masked mask 0 ≡ false → values.batch ≡ 0) × (masked mask 1 ≡ false → values.nozzle ≡ 0) × (masked mask 2 ≡ false → values.plate ≡ 0) × (masked mask 3 ≡ false → values.profile ≡ 0) },
+    batch: Option<u16>,
+    nozzle: Option<u16>,
+    plate: Option<u16>,
+    profile: Option<u16>,
+    ghost small: { IfSome batch (λ n. n < 65536) × IfSome nozzle (λ n. n < 65536) × IfSome plate (λ n. n < 65536) × IfSome profile (λ n. n < 65536) } by { Prim.hlevel props },
 }

@@ -2,7 +2,7 @@
 use Rattle.std.proofs.Common.{refl, ap, ◌∙◌}
 use Rattle.counter.specs.Counting.{level_after, no_level}
 use Rattle.counter.specs.Sames.{same_counter, same_level}
-use Rattle.settings.specs.Sames.{same_setup, same_settings}
+use Rattle.settings.specs.Sames.{same_settings}
 use Rattle.status.specs.Sames.{same_transitions}
 use Rattle.cases.specs.Cases.{Cases, set_to}
 use Rattle.cases.proofs.left_after.Goals as goal
@@ -14,7 +14,7 @@ cases = record {
   first_withdrawn = refl;
   second_withdrawn = refl;
   takings_compose = same_counter _ _ refl refl refl;
-  second_value_wins = same_settings _ _ refl (same_setup _ _ refl refl refl refl);
+  second_value_wins = same_settings _ _ refl refl refl refl;
   pause_then_resume = same_transitions _ _ refl;
   raft_before = (refl, refl);
   at_equal_times = (refl, refl);

@@ -24,5 +24,5 @@ returns-in_err-profile c =
 pub returns : goal.returns
 returns c =
     settings_whole c.args.mask c.args.bytes.now c.in_ok-batch.rest.now c.in_ok-nozzle.rest.now c.in_ok-plate.rest.now _
-    c.in_ok-batch.batch c.in_ok-nozzle.nozzle c.in_ok-plate.plate c.in_ok-profile.profile c.new.result c.new-2.result c.if-mask-gt15.false
-    c.in_ok-batch.ensures c.in_ok-nozzle.ensures c.in_ok-plate.ensures c.in_ok-profile.ensures c.new.ensures c.new-2.ensures
+    c.in_ok-batch.batch c.in_ok-nozzle.nozzle c.in_ok-plate.plate c.in_ok-profile.profile c.from.result c.if-mask-gt15.false
+    c.in_ok-batch.ensures c.in_ok-nozzle.ensures c.in_ok-plate.ensures c.in_ok-profile.ensures c.from.ensures
