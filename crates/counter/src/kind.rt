@@ -44,8 +44,7 @@ impl Counter {
         ensures inside { IsTrue result → InBounds amount floor ceiling }
         ensures outside { result ≡ false → counter_of amount floor ceiling ≡ None }
     {
-        -Counter::MOST <= amount
-            && amount <= Counter::MOST
+        (-Counter::MOST..=Counter::MOST).contains(&amount)
             && floor <= ceiling
             && ceiling <= Level::MOST
     }
