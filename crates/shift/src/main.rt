@@ -9,6 +9,7 @@ use effects::{Effect, composition_agrees};
 use settings::{Settings, Setup};
 use status::{Event, Transitions};
 use std::alloc::{AllocError, Global};
+use std::fmt::Display;
 use std::io;
 
 // The effects of one kind during a shift, first to last, and the state that they lead to.
@@ -71,12 +72,15 @@ impl Shift {
         Ok(())
     }
 
-    fn event(&mut self, event: Event) -> Result<(), AllocError> {
-        self.status.enter(event.transitions())
+    // An event, and the printer behind it.
+    fn event(&mut self, rt: &impl Print, event: Event) -> anyhow::Result<()> {
+        self.status.enter(event.transitions())?;
+        self.print(rt, event)?;
+        Ok(())
     }
 
     // The printer as a person reads it, behind what happened.
-    fn print(&self, rt: &impl Print, what: &str) -> io::Result<()> {
+    fn print(&self, rt: &impl Print, what: impl Display + Drop) -> io::Result<()> {
         let grams = self.material.state.hundredths() / 100;
         let rest = self.material.state.hundredths() % 100;
         let (batch, nozzle, plate, profile) = self.fittings.state.fields();
@@ -95,34 +99,28 @@ impl Shift {
 }
 
 fn morning(rt: &HostRuntime, shift: &mut Shift) -> anyhow::Result<()> {
-    shift.event(Event::PowerOn)?;
-    shift.print(rt, "power on")?;
+    shift.event(rt, Event::PowerOn)?;
     shift.fit(0x0f, Setup::new(7, 4, 12, 3))?;
     shift.print(rt, "fit batch 7, nozzle 4, plate 12, profile 3")?;
     shift.material(0, 100_000, 100_000)?;
     shift.print(rt, "new spool of 1000.00 g")?;
-    shift.event(Event::Heat)?;
-    shift.print(rt, "heat")?;
-    shift.event(Event::Start)?;
-    shift.print(rt, "start")?;
+    shift.event(rt, Event::Heat)?;
+    shift.event(rt, Event::Start)?;
     shift.material(-30_000, 0, 1_000_000)?;
     shift.print(rt, "print specimens, 300.00 g")?;
     Ok(())
 }
 
 fn afternoon(rt: &HostRuntime, shift: &mut Shift) -> anyhow::Result<()> {
-    shift.event(Event::Pause)?;
-    shift.print(rt, "pause")?;
+    shift.event(rt, Event::Pause)?;
     shift.fit(0x01, Setup::new(9, 0, 0, 0))?;
     shift.print(rt, "fit batch 9")?;
     shift.material(25_000, 0, 1_000_000)?;
     shift.print(rt, "refill of 250.00 g")?;
-    shift.event(Event::Resume)?;
-    shift.print(rt, "resume")?;
+    shift.event(rt, Event::Resume)?;
     shift.material(-90_000, 0, 1_000_000)?;
     shift.print(rt, "print specimens, 900.00 g")?;
-    shift.event(Event::EndOfJob)?;
-    shift.print(rt, "end of job")?;
+    shift.event(rt, Event::EndOfJob)?;
     Ok(())
 }
 
