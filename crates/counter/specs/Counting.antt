@@ -53,7 +53,7 @@ level_after c l = record {
 
 -- a sum limited to -1,000,000 and 1,000,000
 abbrev pub limited_amount : ℤ → ℤ
-limited_amount sum = int_max (int_min sum (pos 1000000)) (negsuc 999999)
+limited_amount sum = int_max (negsuc 999999) (int_min sum (pos 1000000))
 
 -- the amount of two counters composed
 abbrev pub added : ℤ → ℤ → ℤ

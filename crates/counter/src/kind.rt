@@ -96,7 +96,7 @@ fn limit_amount(sum: i32) -> i32
     ensures least { negsuc 999999 ≤ℤ result }
     ensures most { result ≤ℤ pos 1000000 }
 {
-    sum.min(Counter::MOST).max(-Counter::MOST)
+    sum.clamp(-Counter::MOST, Counter::MOST)
 }
 
 impl Effect for Counter {

@@ -21,6 +21,7 @@ const ROWS: [u8; 88] = [
     0, 7, 7, 7, 7, 7, 7, 7, // fault
 ];
 
+// Entry k of the table, under its one rule: it is the rows of the events, one after the other.
 fn table_entry(k: usize) -> u8
     requires { k < 88 }
     ensures { result ≡ slice_index rows k }
