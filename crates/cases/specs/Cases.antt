@@ -1,6 +1,7 @@
 -- Worked cases of the kinds and of the reference ledger, each a closed computation.
 use Rattle.std.specs.Prelude.{◌≡◌, ℕ, ◌^◌, true, false, T, [], ℤ, pos, negsuc, neg_ℤ, int_le, nat_le, nat_lt}
 use Rattle.std.proofs.Common.{lit<, lit≤}
+use Rattle.std.proofs.Math.Nat.{le_trans}
 use Rattle.std.specs.Int.Signed.{le_z_yes, mag}
 use Rattle.counter.specs.declared.Level.{Level}
 use Rattle.counter.specs.declared.Counter.{Counter}
@@ -25,7 +26,14 @@ abbrev pub level : (n : ℕ) → T (nat_le n 1000000) → Level
 level n p = record { hundredths = n; within = lit≤ p }
 
 abbrev pub counter : (amount : ℤ) (floor ceiling : ℕ) → T (int_le (negsuc 999999) amount) → T (int_le amount (pos 1000000)) → T (nat_le floor ceiling) → T (nat_le ceiling 1000000) → Counter
-counter amount floor ceiling p q r s = record { amount = amount; floor = floor; ceiling = ceiling; least = le_z_yes p; most = le_z_yes q; ordered = lit≤ r; topped = lit≤ s }
+counter amount floor ceiling p q r s = record {
+  amount = amount;
+  floor = record { hundredths = floor; within = le_trans (lit≤ r) (lit≤ s) };
+  ceiling = level ceiling s;
+  least = le_z_yes p;
+  most = le_z_yes q;
+  ordered = lit≤ r;
+}
 
 abbrev pub set_to : (n : ℕ) → T (nat_le n n) → T (nat_le n 1000000) → Counter
 set_to n p q = counter (pos 0) n n tt tt p q

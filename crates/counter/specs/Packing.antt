@@ -9,7 +9,7 @@ use Rattle.counter.specs.declared.Counter.{Counter}
 -- the first word: (amount + 1,000,000) * 2 ^ 42 + floor * 2 ^ 21 + ceiling
 abbrev pub counter_words : Counter → EffectWords
 counter_words c = record {
-  first = unsigned_abs (c.amount +ℤ pos 1000000) * 2 ^ 42 + c.floor * 2 ^ 21 + c.ceiling;
+  first = unsigned_abs (c.amount +ℤ pos 1000000) * 2 ^ 42 + c.floor.hundredths * 2 ^ 21 + c.ceiling.hundredths;
   second = 0;
 }
 

@@ -9,5 +9,8 @@ use Rattle.counter.specs.contracts.Counter as counter
 pub same_level : (a b : Level) → a.hundredths ≡ b.hundredths → a ≡ b
 same_level a b p = values_one level.struct level.the_propositions a b (λ i. (p i, tt))
 
-pub same_counter : (a b : Counter) → a.amount ≡ b.amount → a.floor ≡ b.floor → a.ceiling ≡ b.ceiling → a ≡ b
-same_counter a b p q r = values_one counter.struct counter.the_propositions a b (λ i. (p i, (q i, (r i, tt))))
+pub same_counter : (a b : Counter) → a.amount ≡ b.amount → a.floor.hundredths ≡ b.floor.hundredths → a.ceiling.hundredths ≡ b.ceiling.hundredths → a ≡ b
+same_counter a b p q r =
+    let floors = same_level a.floor b.floor q in
+    let ceilings = same_level a.ceiling b.ceiling r in
+    values_one counter.struct (counter.the_propositions (level.the_row).coded) a b (λ i. (p i, (floors i, (ceilings i, tt))))

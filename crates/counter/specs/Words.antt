@@ -23,13 +23,15 @@ module _ (raised floor ceiling : ℕ) (floor< : floor < 2 ^ 21) (ceiling< : ceil
 pub counter_reads_back : (c : Counter) → counter_read (counter_words c) ≡ Some c
 counter_reads_back c =
     let raised : ℕ = unsigned_abs (c.amount +ℤ pos 1000000) in
-    let floor< : c.floor < 2 ^ 21 = omega (arith, c.ordered, c.topped) in
-    let ceiling< : c.ceiling < 2 ^ 21 = omega (arith, c.topped) in
+    let floor : ℕ = c.floor.hundredths in
+    let ceiling : ℕ = c.ceiling.hundredths in
+    let floor< : floor < 2 ^ 21 = omega (arith, c.floor.within) in
+    let ceiling< : ceiling < 2 ^ 21 = omega (arith, c.ceiling.within) in
     let amount : pos raised +ℤ negsuc 999999 ≡ c.amount = omega (arith, ints, c.least, c.most) in
-    ap (λ n. counter_of (pos n +ℤ negsuc 999999) ((counter_words c).first / 2 ^ 21 % 2 ^ 21) ((counter_words c).first % 2 ^ 21)) (raised_part raised c.floor c.ceiling floor< ceiling<)
-    ∙ ap (λ n. counter_of (pos raised +ℤ negsuc 999999) n ((counter_words c).first % 2 ^ 21)) (floor_part raised c.floor c.ceiling floor< ceiling<)
-    ∙ ap (λ n. counter_of (pos raised +ℤ negsuc 999999) c.floor n) (ceiling_part raised c.floor c.ceiling floor< ceiling<)
-    ∙ ap (λ z. counter_of z c.floor c.ceiling) amount ∙ counter_back c
+    ap (λ n. counter_of (pos n +ℤ negsuc 999999) ((counter_words c).first / 2 ^ 21 % 2 ^ 21) ((counter_words c).first % 2 ^ 21)) (raised_part raised floor ceiling floor< ceiling<)
+    ∙ ap (λ n. counter_of (pos raised +ℤ negsuc 999999) n ((counter_words c).first % 2 ^ 21)) (floor_part raised floor ceiling floor< ceiling<)
+    ∙ ap (λ n. counter_of (pos raised +ℤ negsuc 999999) floor n) (ceiling_part raised floor ceiling floor< ceiling<)
+    ∙ ap (λ z. counter_of z floor ceiling) amount ∙ counter_back c
 
 -- the raised amount of what was read is what the word has of it
 lifted : (n : ℕ) (z : ℤ) → z ≡ pos n +ℤ negsuc 999999 → unsigned_abs (z +ℤ pos 1000000) ≡ n

@@ -1,7 +1,7 @@
 // What a counter does to a level, and the words that it is kept as.
-ghost use Rattle.std.specs.Prelude.{◌≡◌, ◌≤◌, pos, negsuc, ◌≤ℤ◌, Some, None, MatchBool};
+ghost use Rattle.std.specs.Prelude.{◌≡◌, ◌≤◌, false, pos, negsuc, ◌≤ℤ◌, Some, None, IsTrue};
 ghost use Rattle.std.proofs.Common.{ap};
-ghost use Rattle.counter.specs.Counting.{level_of, InBounds, counter_of, limited, no_level, level_after, limited_amount, added, no_count, joined};
+ghost use Rattle.counter.specs.Counting.{level_of, InBounds, counter_of, no_level, level_after, limited_amount, no_count, joined};
 ghost use Rattle.counter.specs.declared.Level.{Level};
 ghost use Rattle.counter.specs.declared.Counter.{Counter};
 ghost use Rattle.counter.specs.Packing.{counter_words, counter_read, level_words};
@@ -19,6 +19,7 @@ impl Level {
     // The level of so many hundredths, of which there is one.
     fn exactly(hundredths: u32) -> Level
         requires { hundredths ≤ 1000000 }
+        ensures value { result.hundredths ≡ hundredths }
         ensures same { (l : Level) → hundredths ≡ l.hundredths → result ≡ l }
         ensures made { Some result ≡ level_of hundredths }
     {
@@ -40,67 +41,52 @@ impl Counter {
 
     // Whether there is a counter of these three numbers.
     fn exists(amount: i32, floor: u32, ceiling: u32) -> bool
-        ensures { MatchBool result (InBounds amount floor ceiling) (counter_of amount floor ceiling ≡ None) }
+        ensures inside { IsTrue result → InBounds amount floor ceiling }
+        ensures outside { result ≡ false → counter_of amount floor ceiling ≡ None }
     {
-        if amount < -Counter::MOST
-            || amount > Counter::MOST
-            || floor > ceiling
-            || ceiling > Level::MOST
-        {
-            return false;
-        }
-        true
+        (-Counter::MOST..=Counter::MOST).contains(&amount)
+            && floor <= ceiling
+            && ceiling <= Level::MOST
     }
 
     // The counter of three numbers, of which there is one.
     fn exactly(amount: i32, floor: u32, ceiling: u32) -> Counter
         requires { InBounds amount floor ceiling }
-        ensures same { (c : Counter) → amount ≡ c.amount → floor ≡ c.floor → ceiling ≡ c.ceiling → result ≡ c }
+        ensures same { (c : Counter) → amount ≡ c.amount → floor ≡ c.floor.hundredths → ceiling ≡ c.ceiling.hundredths → result ≡ c }
         ensures made { Some result ≡ counter_of amount floor ceiling }
     {
         Counter {
             amount,
-            floor,
-            ceiling,
+            floor: Level::exactly(floor),
+            ceiling: Level::exactly(ceiling),
         }
     }
 
     pub fn new(amount: i32, floor: u32, ceiling: u32) -> Option<Counter>
         ensures { result ≡ counter_of amount floor ceiling }
     {
-        if Counter::exists(amount, floor, ceiling) {
-            Some(Counter::exactly(amount, floor, ceiling))
-        } else {
-            None
+        Counter::exists(amount, floor, ceiling).then(|| Counter::exactly(amount, floor, ceiling))
+    }
+
+    // Adds the amount, then raises to the floor, then lowers to the ceiling.
+    fn limit(self, level: Level) -> Level
+        ensures { result ≡ level_after self level }
+    {
+        let moved = level.hundredths as i32 + self.amount;
+        let raised = moved.max(self.floor.hundredths as i32);
+        let lowered = raised.min(self.ceiling.hundredths as i32);
+        Level::exactly(lowered as u32)
+    }
+
+    // This counter and then another: their amounts' sum, and the other acting on this one's floor and ceiling.
+    fn then(self, second: Counter) -> Counter
+        ensures { result ≡ joined self second }
+    {
+        Counter {
+            amount: limit_amount(self.amount + second.amount),
+            floor: second.limit(self.floor),
+            ceiling: second.limit(self.ceiling),
         }
-    }
-
-    // The counter of two amounts' sum, limited to what an amount may be, and of a floor and a ceiling.
-    fn of_sum(first: i32, second: i32, floor: u32, ceiling: u32) -> Counter
-        requires small { (negsuc 999999 ≤ℤ first) × (first ≤ℤ pos 1000000) × (negsuc 999999 ≤ℤ second) × (second ≤ℤ pos 1000000) }
-        requires limits { (floor ≤ ceiling) × (ceiling ≤ 1000000) }
-        ensures { (c : Counter) → added first second ≡ c.amount → floor ≡ c.floor → ceiling ≡ c.ceiling → result ≡ c }
-    {
-        let amount = limit_amount(first + second);
-        Counter::exactly(amount, floor, ceiling)
-    }
-
-    // What this counter makes of a level's hundredths.
-    fn limit(self, hundredths: u32) -> u32
-        requires { hundredths ≤ 1000000 }
-        ensures value { result ≡ limited self.amount self.floor self.ceiling hundredths }
-        ensures within { result ≤ 1000000 }
-    {
-        add_and_limit(hundredths, self.amount, self.floor, self.ceiling)
-    }
-
-    // The limits of a counter that this one follows: they are levels too, and this one acts on them.
-    fn limits_after(self, first: Counter) -> (u32, u32)
-        ensures floor { result.0 ≡ limited self.amount self.floor self.ceiling first.floor }
-        ensures ceiling { result.1 ≡ limited self.amount self.floor self.ceiling first.ceiling }
-        ensures ordered { (result.0 ≤ result.1) × (result.1 ≤ 1000000) }
-    {
-        (self.limit(first.floor), self.limit(first.ceiling))
     }
 }
 
@@ -110,18 +96,7 @@ fn limit_amount(sum: i32) -> i32
     ensures least { negsuc 999999 ≤ℤ result }
     ensures most { result ≤ℤ pos 1000000 }
 {
-    sum.min(Counter::MOST).max(-Counter::MOST)
-}
-
-// Adds the amount, then raises to the floor, then lowers to the ceiling.
-fn add_and_limit(hundredths: u32, amount: i32, floor: u32, ceiling: u32) -> u32
-    requires { (hundredths ≤ 1000000) × InBounds amount floor ceiling }
-    ensures value { result ≡ limited amount floor ceiling hundredths }
-    ensures within { result ≤ 1000000 }
-{
-    let moved = hundredths as i32 + amount;
-    let raised = moved.max(floor as i32);
-    raised.min(ceiling as i32) as u32
+    sum.clamp(-Counter::MOST, Counter::MOST)
 }
 
 impl Effect for Counter {
@@ -145,7 +120,7 @@ impl Effect for Counter {
 
     ghost follows = { λ f g s.
         same_level _ _
-        (limited_twice f.amount g.amount f.floor g.floor f.ceiling g.ceiling s.hundredths g.ordered g.topped s.within) };
+        (limited_twice f.amount g.amount f.floor.hundredths g.floor.hundredths f.ceiling.hundredths g.ceiling.hundredths s.hundredths g.ordered g.ceiling.within s.within) };
 
     ghost back = { λ f. counter_reads_back f };
 
@@ -162,18 +137,19 @@ impl Effect for Counter {
     }
 
     fn act(self, level: Level) -> Level {
-        Level::exactly(self.limit(level.hundredths))
+        self.limit(level)
     }
 
     fn compose(self, second: Counter) -> Counter {
-        let (floor, ceiling) = second.limits_after(self);
-        Counter::of_sum(self.amount, second.amount, floor, ceiling)
+        self.then(second)
     }
 
     fn to_words(self) -> EffectWords {
         let raised = (self.amount + Counter::MOST) as u64;
         EffectWords {
-            first: (raised << 42) + ((self.floor as u64) << 21) + self.ceiling as u64,
+            first: (raised << 42)
+                + ((self.floor.hundredths as u64) << 21)
+                + self.ceiling.hundredths as u64,
             second: 0,
         }
     }

@@ -17,10 +17,9 @@ pub struct Level {
 #[derive(Clone, Copy)]
 pub struct Counter {
     amount: i32,
-    floor: u32,
-    ceiling: u32,
+    floor: Level,
+    ceiling: Level,
     ghost least: { negsuc 999999 ≤ℤ amount },
     ghost most: { amount ≤ℤ pos 1000000 },
-    ghost ordered: { floor ≤ ceiling },
-    ghost topped: { ceiling ≤ 1000000 },
+    ghost ordered: { floor.hundredths ≤ ceiling.hundredths },
 }

@@ -19,14 +19,14 @@ impl Counter {
     }
 
     pub fn floor(self) -> u32
-        ensures { result ≡ self.floor }
+        ensures { result ≡ self.floor.hundredths }
     {
-        self.floor
+        self.floor.hundredths
     }
 
     pub fn ceiling(self) -> u32
-        ensures { result ≡ self.ceiling }
+        ensures { result ≡ self.ceiling.hundredths }
     {
-        self.ceiling
+        self.ceiling.hundredths
     }
 }

@@ -74,11 +74,7 @@ pub trait Effect: Copy {
 pub fn carry<E: Effect>(from: E::State, effects: &[E]) -> E::State
     ensures { result ≡ fold (λ s e. E.acts e s) from effects.now }
 {
-    let mut state = from;
-    for effect in effects {
-        state = effect.act(state);
-    }
-    state
+    effects.iter().fold(from, |state, effect| effect.act(state))
 }
 
 // All effects composed into one, first to last: acting with it is carrying a state through them.
@@ -86,11 +82,9 @@ pub fn compose_all<E: Effect>(effects: &[E]) -> E
     ensures value { result ≡ fold E.composed E.unchanged effects.now }
     ensures carries { (s : E.State) → E.acts result s ≡ fold (λ t e. E.acts e t) s effects.now }
 {
-    let mut total = E::no_change();
-    for effect in effects {
-        total = total.compose(*effect);
-    }
-    total
+    effects
+        .iter()
+        .fold(E::no_change(), |total, effect| total.compose(*effect))
 }
 
 // Whether effects carry a state one after the other to where their composition takes it: they always do.

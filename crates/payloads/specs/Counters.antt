@@ -7,7 +7,7 @@ use Rattle.counter.specs.declared.Counter.{Counter}
 use Rattle.counter.specs.Counting.{counter_of}
 
 abbrev pub counter_layout : Counter → List ℕ
-counter_layout c = bytes_of 4 (twos_complement c.amount) ++ (bytes_of 4 c.floor ++ bytes_of 4 c.ceiling)
+counter_layout c = bytes_of 4 (twos_complement c.amount) ++ (bytes_of 4 c.floor.hundredths ++ bytes_of 4 c.ceiling.hundredths)
 
 -- the counter that bytes begin with, or none where they are too few or its bounds are not kept
 abbrev pub counter_parsed : List ℕ → Option Counter

@@ -29,13 +29,13 @@ amount_bits (negsuc n) low high = omega (arith, ints)
 pub counter_again : (c : Counter) (rest : List ℕ) → counter_parsed (counter_layout c ++ rest) ≡ Some c
 counter_again c rest =
     let mags = small_amount c.amount c.least c.most in
-    let floor< : c.floor < 2 ^ 32 = omega (arith, c.ordered, c.topped) in
-    let ceiling< : c.ceiling < 2 ^ 32 = omega (arith, c.topped) in
+    let floor< : c.floor.hundredths < 2 ^ 32 = omega (arith, c.floor.within) in
+    let ceiling< : c.ceiling.hundredths < 2 ^ 32 = omega (arith, c.ceiling.within) in
     given_passed (nat_le 12 (length (counter_layout c ++ rest))) _ (le→leb 12 (length (counter_layout c ++ rest)) (omega arith))
-    ∙ ap (λ n. counter_of (signed n) (worth (bytes_of 4 c.floor)) (worth (bytes_of 4 c.ceiling))) (worth_bytes 4 (twos_complement c.amount) (complement_small c.amount mags))
-    ∙ ap (λ z. counter_of z (worth (bytes_of 4 c.floor)) (worth (bytes_of 4 c.ceiling))) (signed_complement c.amount mags)
-    ∙ ap (λ n. counter_of c.amount n (worth (bytes_of 4 c.ceiling))) (worth_bytes 4 c.floor floor<)
-    ∙ ap (λ n. counter_of c.amount c.floor n) (worth_bytes 4 c.ceiling ceiling<) ∙ counter_back c
+    ∙ ap (λ n. counter_of (signed n) (worth (bytes_of 4 c.floor.hundredths)) (worth (bytes_of 4 c.ceiling.hundredths))) (worth_bytes 4 (twos_complement c.amount) (complement_small c.amount mags))
+    ∙ ap (λ z. counter_of z (worth (bytes_of 4 c.floor.hundredths)) (worth (bytes_of 4 c.ceiling.hundredths))) (signed_complement c.amount mags)
+    ∙ ap (λ n. counter_of c.amount n (worth (bytes_of 4 c.ceiling.hundredths))) (worth_bytes 4 c.floor.hundredths floor<)
+    ∙ ap (λ n. counter_of c.amount c.floor.hundredths n) (worth_bytes 4 c.ceiling.hundredths ceiling<) ∙ counter_back c
 
 pub counter_exact : (bs : List ℕ) (c : Counter) → AllBelowBase 256 bs → counter_parsed bs ≡ Some c → counter_layout c ≡ take 12 bs
 counter_exact bs c u is =
@@ -48,11 +48,11 @@ counter_exact bs c u is =
     let from = counter_from (signed (worth (take 4 bs))) (worth (take 4 b1)) (worth (take 4 b2)) c read.1 in
     let amount : bytes_of 4 (twos_complement c.amount) ≡ take 4 bs =
     ap (λ z. bytes_of 4 (twos_complement z)) from.0 ∙ ap (bytes_of 4) (complement_signed (worth (take 4 bs)) (front_below 4 bs u (omega arith))) ∙ front_back 4 bs u (omega arith) in
-    let floor : bytes_of 4 c.floor ≡ take 4 b1 = ap (bytes_of 4) from.1 ∙ front_back 4 b1 u1 (omega arith) in
-    let ceiling : bytes_of 4 c.ceiling ≡ take 4 b2 = ap (bytes_of 4) from.2 ∙ front_back 4 b2 u2 long2 in
+    let floor : bytes_of 4 c.floor.hundredths ≡ take 4 b1 = ap (bytes_of 4) from.1 ∙ front_back 4 b1 u1 (omega arith) in
+    let ceiling : bytes_of 4 c.ceiling.hundredths ≡ take 4 b2 = ap (bytes_of 4) from.2 ∙ front_back 4 b2 u2 long2 in
     let whole : counter_layout c ++ drop 4 b2 ≡ bs =
-    ap (λ l. (l ++ (bytes_of 4 c.floor ++ bytes_of 4 c.ceiling)) ++ drop 4 b2) amount
-    ∙ ap (λ l. (take 4 bs ++ (l ++ bytes_of 4 c.ceiling)) ++ drop 4 b2) floor
+    ap (λ l. (l ++ (bytes_of 4 c.floor.hundredths ++ bytes_of 4 c.ceiling.hundredths)) ++ drop 4 b2) amount
+    ∙ ap (λ l. (take 4 bs ++ (l ++ bytes_of 4 c.ceiling.hundredths)) ++ drop 4 b2) floor
     ∙ ap (λ l. (take 4 bs ++ (take 4 b1 ++ l)) ++ drop 4 b2) ceiling
     ∙ append_assoc (take 4 bs) (take 4 b1 ++ take 4 b2) (drop 4 b2)
     ∙ ap (λ l. take 4 bs ++ l) (append_assoc (take 4 b1) (take 4 b2) (drop 4 b2) ∙ ap (λ l. take 4 b1 ++ l) (take-append-drop 4 b2) ∙ take-append-drop 4 b1)

@@ -38,7 +38,7 @@ impl Payload for Transitions {
 
     fn parse(bytes: &[u8]) -> Option<Event> {
         let code = bytes.first()?;
-        Event::from_code(*code)
+        Event::try_from(*code).ok()
     }
 
     fn append(form: Event, out: &mut Bytes) {

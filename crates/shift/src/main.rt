@@ -4,67 +4,55 @@
 
 use anyhow::anyhow;
 use cases::spool_left;
-use counter::{Counter, Level};
+use counter::Counter;
 use effects::{Effect, composition_agrees};
 use settings::{Settings, Setup};
-use status::{Event, Status, Transitions};
+use status::{Event, Transitions};
 use std::alloc::{AllocError, Global};
+use std::fmt::Display;
 use std::io;
 
-// What a printer has, is set up with and does.
-#[derive(Clone, Copy)]
-struct Printer {
-    level: Level,
-    setup: Setup,
-    status: Status,
+// The effects of one kind during a shift, first to last, and the state that they lead to.
+#[derive(Drop)]
+struct Track<E: Effect> {
+    state: E::State,
+    effects: Vec<E>,
 }
 
-// A printer during a shift, with the effects of each kind so far.
+impl<E: Effect> Track<E> {
+    fn begin(heap: Global) -> Track<E> {
+        Track {
+            state: E::start_state(),
+            effects: Vec::new(heap),
+        }
+    }
+
+    fn enter(&mut self, effect: E) -> Result<(), AllocError> {
+        self.state = effect.act(self.state);
+        self.effects.push(effect)?;
+        Ok(())
+    }
+
+    // Whether the effects in turn and their composition lead to one state.
+    fn composed_alike(&self) -> bool {
+        composition_agrees(E::start_state(), &self.effects)
+    }
+}
+
+// A printer during a shift: what it has, is set up with and does.
 #[derive(Drop)]
 struct Shift {
-    printer: Printer,
-    counters: Vec<Counter>,
-    fittings: Vec<Settings>,
-    transitions: Vec<Transitions>,
-}
-
-fn status_name(status: Status) -> &'static str {
-    match status {
-        Status::Off => "off",
-        Status::Idle => "idle",
-        Status::Heating => "heating",
-        Status::Printing => "printing",
-        Status::Paused => "paused",
-        Status::Cooling => "cooling",
-        Status::Service => "service",
-        Status::Fault => "fault",
-    }
-}
-
-impl Printer {
-    // The printer as a person reads it, behind what happened.
-    fn print(self, rt: &impl Print, what: &str) -> io::Result<()> {
-        let grams = self.level.hundredths() / 100;
-        let rest = self.level.hundredths() % 100;
-        let (batch, nozzle, plate, profile) = self.setup.fields();
-        let status = status_name(self.status);
-        println!(rt;
-            "{what:<44}{grams:>6}.{rest:02} g  {status:<9} batch {batch}, nozzle {nozzle}, plate {plate}, profile {profile}"
-        )
-    }
+    material: Track<Counter>,
+    fittings: Track<Settings>,
+    status: Track<Transitions>,
 }
 
 impl Shift {
     fn begin(heap: Global) -> Shift {
         Shift {
-            printer: Printer {
-                level: Counter::start_state(),
-                setup: Settings::start_state(),
-                status: Transitions::start_state(),
-            },
-            counters: Vec::new(heap),
-            fittings: Vec::new(heap),
-            transitions: Vec::new(heap),
+            material: Track::begin(heap),
+            fittings: Track::begin(heap),
+            status: Track::begin(heap),
         }
     }
 
@@ -72,8 +60,7 @@ impl Shift {
         let Some(counter) = Counter::new(amount, floor, ceiling) else {
             return Err(anyhow!("a counter is out of bounds"));
         };
-        self.printer.level = counter.act(self.printer.level);
-        self.counters.push(counter)?;
+        self.material.enter(counter)?;
         Ok(())
     }
 
@@ -81,63 +68,65 @@ impl Shift {
         let Some(settings) = Settings::new(mask, values) else {
             return Err(anyhow!("a value is not masked"));
         };
-        self.printer.setup = settings.act(self.printer.setup);
-        self.fittings.push(settings)?;
+        self.fittings.enter(settings)?;
         Ok(())
     }
 
-    fn event(&mut self, event: Event) -> Result<(), AllocError> {
-        let transitions = event.transitions();
-        self.printer.status = transitions.act(self.printer.status);
-        self.transitions.push(transitions)?;
+    // An event, and the printer behind it.
+    fn event(&mut self, rt: &impl Print, event: Event) -> anyhow::Result<()> {
+        self.status.enter(event.transitions())?;
+        self.print(rt, event)?;
         Ok(())
+    }
+
+    // The printer as a person reads it, behind what happened.
+    fn print(&self, rt: &impl Print, what: impl Display + Drop) -> io::Result<()> {
+        let grams = self.material.state.hundredths() / 100;
+        let rest = self.material.state.hundredths() % 100;
+        let (batch, nozzle, plate, profile) = self.fittings.state.fields();
+        let status = self.status.state;
+        println!(rt;
+            "{what:<44}{grams:>6}.{rest:02} g  {status:<9} batch {batch}, nozzle {nozzle}, plate {plate}, profile {profile}"
+        )
     }
 
     // Whether, for each kind, the effects in turn and their composition lead to one state.
     fn composed_alike(&self) -> bool {
-        composition_agrees(Counter::start_state(), &self.counters)
-            && composition_agrees(Settings::start_state(), &self.fittings)
-            && composition_agrees(Transitions::start_state(), &self.transitions)
+        self.material.composed_alike()
+            && self.fittings.composed_alike()
+            && self.status.composed_alike()
     }
 }
 
 fn morning(rt: &HostRuntime, shift: &mut Shift) -> anyhow::Result<()> {
-    shift.event(Event::PowerOn)?;
-    shift.printer.print(rt, "power on")?;
+    shift.event(rt, Event::PowerOn)?;
     shift.fit(0x0f, Setup::new(7, 4, 12, 3))?;
-    shift
-        .printer
-        .print(rt, "fit batch 7, nozzle 4, plate 12, profile 3")?;
+    shift.print(rt, "fit batch 7, nozzle 4, plate 12, profile 3")?;
     shift.material(0, 100_000, 100_000)?;
-    shift.printer.print(rt, "new spool of 1000.00 g")?;
-    shift.event(Event::Heat)?;
-    shift.printer.print(rt, "heat")?;
-    shift.event(Event::Start)?;
-    shift.printer.print(rt, "start")?;
+    shift.print(rt, "new spool of 1000.00 g")?;
+    shift.event(rt, Event::Heat)?;
+    shift.event(rt, Event::Start)?;
     shift.material(-30_000, 0, 1_000_000)?;
-    shift.printer.print(rt, "print specimens, 300.00 g")?;
+    shift.print(rt, "print specimens, 300.00 g")?;
     Ok(())
 }
 
 fn afternoon(rt: &HostRuntime, shift: &mut Shift) -> anyhow::Result<()> {
-    shift.event(Event::Pause)?;
-    shift.printer.print(rt, "pause")?;
+    shift.event(rt, Event::Pause)?;
     shift.fit(0x01, Setup::new(9, 0, 0, 0))?;
-    shift.printer.print(rt, "fit batch 9")?;
+    shift.print(rt, "fit batch 9")?;
     shift.material(25_000, 0, 1_000_000)?;
-    shift.printer.print(rt, "refill of 250.00 g")?;
-    shift.event(Event::Resume)?;
-    shift.printer.print(rt, "resume")?;
+    shift.print(rt, "refill of 250.00 g")?;
+    shift.event(rt, Event::Resume)?;
     shift.material(-90_000, 0, 1_000_000)?;
-    shift.printer.print(rt, "print specimens, 900.00 g")?;
-    shift.event(Event::EndOfJob)?;
-    shift.printer.print(rt, "end of job")?;
+    shift.print(rt, "print specimens, 900.00 g")?;
+    shift.event(rt, Event::EndOfJob)?;
     Ok(())
 }
 
 fn run(rt: &HostRuntime) -> anyhow::Result<()> {
     let mut shift = Shift::begin(rt.alloc());
-    shift.printer.print(rt, "before the shift")?;
+    shift.print(rt, "before the shift")?;
     morning(rt, &mut shift)?;
     afternoon(rt, &mut shift)?;
     if !shift.composed_alike() {

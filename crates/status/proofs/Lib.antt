@@ -1,1 +1,3 @@
+mod Arrays
+mod Digits
 mod Rows

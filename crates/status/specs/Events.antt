@@ -1,10 +1,11 @@
 -- The eleven events, their codes and their transitions.
-use Rattle.std.specs.Prelude.{◌≡◌, ℕ, zero, suc, ◌-◌, List, [], ◌∷◌, map, length, None, codes, Option, refl}
+use Rattle.std.specs.Prelude.{◌≡◌, ℕ, zero, suc, ◌-◌, List, [], ◌∷◌, map, length, Some, None, Ok, Err, codes, Option, Result, refl}
 use Rattle.std.specs.List.{flat_map, slice_get}
 use Rattle.status.specs.Codes.{status_of}
 use Rattle.status.specs.declared.Status.{Status}
 use Rattle.status.specs.declared.Transitions.{Transitions}
 use Rattle.status.specs.declared.Event.{Event}
+use Rattle.status.specs.declared.UnknownEvent.{UnknownEvent}
 use Rattle.status.specs.declared.Event.TheVariants.{PowerOn, PowerOff, Heat, Start, Pause, Resume, EndOfJob, Cooled, IntoService, OutOfService, Fault}
 
 -- the events, in the order of their codes
@@ -15,6 +16,11 @@ events = PowerOn ∷ PowerOff ∷ Heat ∷ Start ∷ Pause ∷ Resume ∷ EndOfJ
 abbrev pub event_of : ℕ → Option Event
 event_of zero = None
 event_of (suc i) = slice_get events i
+
+-- r is the event of a code, or the code given back where no event has it
+abbrev pub EventRead : ℕ → Result Event UnknownEvent → Type 0
+EventRead code (Ok event) = event_of code ≡ Some event
+EventRead code (Err unknown) = (event_of code ≡ None) × (unknown.0 ≡ code)
 
 abbrev pub event_code : Event → ℕ
 event_code PowerOn = 0x01

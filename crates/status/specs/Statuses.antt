@@ -1,7 +1,7 @@
 -- A status and its code stand for each other, and transitions composed act as the two in turn.
 use Rattle.std.specs.Prelude.{◌≡◌, ℕ, zero, suc, ◌<◌, List, [], ◌∷◌, map, length, slice_index_or, refl}
-use Rattle.std.proofs.Common.{ap₂, arith, lit<}
-use Rattle.std.proofs.lemmas.List.{get_or-map}
+use Rattle.std.proofs.Common.{ap₂, ◌∙◌, arith, lit<}
+use Rattle.std.proofs.lemmas.List.{get_or_default, get_or-map}
 use Rattle.status.specs.Codes.{statuses, status_of, code_of}
 use Rattle.status.specs.Turns.{turned, joined}
 use Rattle.status.specs.declared.Status.{Status}
@@ -41,14 +41,7 @@ code_of_status (suc (suc (suc (suc (suc (suc (suc (suc n)))))))) h = absurd (ome
 
 -- no change leaves a status, whatever stands past the last code
 pub unturned : (s : Status) → slice_index_or statuses (code_of s) Off ≡ s
-unturned Off = refl
-unturned Idle = refl
-unturned Heating = refl
-unturned Printing = refl
-unturned Paused = refl
-unturned Cooling = refl
-unturned Service = refl
-unturned Fault = refl
+unturned s = get_or_default statuses (code_of s) Off Fault (code_small s) ∙ status_of_code s
 
 pub statuses_of_codes : (ss : List Status) → map status_of (map code_of ss) ≡ ss
 statuses_of_codes [] = refl

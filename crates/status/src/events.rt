@@ -1,9 +1,9 @@
 // The eleven events, and what each of them makes of every status.
-ghost use Rattle.std.specs.Prelude.{◌≡◌, ◌<◌, slice_index, slice_index_or};
-ghost use Rattle.status.specs.declared.Status.TheVariants.{Off};
-ghost use Rattle.status.specs.Events.{event_code, event_of, rows, becomes, event_transitions};
+ghost use Rattle.std.specs.Prelude.{◌≡◌, ◌<◌, slice_index};
+ghost use Rattle.status.specs.Events.{event_code, EventRead, rows, becomes, event_transitions};
 
-use super::{Event, Status, Transitions};
+use super::{Event, Status, Transitions, UnknownEvent};
+use std::array;
 
 // A row of eight codes for each event, in the order of the events.
 #[rattlefmt::skip]
@@ -21,30 +21,12 @@ const ROWS: [u8; 88] = [
     0, 7, 7, 7, 7, 7, 7, 7, // fault
 ];
 
+// Entry k of the table, under its one rule: it is the rows of the events, one after the other.
 fn table_entry(k: usize) -> u8
     requires { k < 88 }
     ensures { result ≡ slice_index rows k }
 {
     ROWS[k]
-}
-
-// What the event makes of the status of code i.
-fn entry(event: Event, i: usize) -> Status
-    requires { i < 8 }
-    ensures { result ≡ slice_index_or (becomes event) i Off }
-{
-    Status::of_digit(table_entry((event.code() as usize - 1) * 8 + i))
-}
-
-// What the event makes of every status.
-fn transitions_of(event: Event) -> Transitions
-    ensures { result ≡ event_transitions event }
-{
-    let mut entries = [Status::Off; 8];
-    for i in 0..8 {
-        entries[i] = entry(event, i);
-    }
-    Transitions::new(entries)
 }
 
 impl Event {
@@ -54,28 +36,40 @@ impl Event {
         self as u8
     }
 
-    pub fn from_code(code: u8) -> Option<Event>
-        ensures { result ≡ event_of code }
+    // What the event makes of the statuses, in the order of their codes.
+    fn row(self) -> [Status; 8]
+        ensures { result ≡ becomes self }
     {
-        match code {
-            0x01 => Some(Event::PowerOn),
-            0x02 => Some(Event::PowerOff),
-            0x03 => Some(Event::Heat),
-            0x04 => Some(Event::Start),
-            0x05 => Some(Event::Pause),
-            0x06 => Some(Event::Resume),
-            0x07 => Some(Event::EndOfJob),
-            0x08 => Some(Event::Cooled),
-            0x09 => Some(Event::IntoService),
-            0x0a => Some(Event::OutOfService),
-            0x0b => Some(Event::Fault),
-            _ => None,
-        }
+        let start = 8 * (self.code() as usize - 1);
+        array::from_fn(|i| Status::of_digit(table_entry(start + i)))
     }
 
     pub fn transitions(self) -> Transitions
         ensures { result ≡ event_transitions self }
     {
-        transitions_of(self)
+        Transitions::new(self.row())
+    }
+}
+
+impl TryFrom<u8> for Event {
+    type Error = UnknownEvent;
+
+    ghost try_from_gives = { EventRead };
+
+    fn try_from(code: u8) -> Result<Event, UnknownEvent> {
+        match code {
+            0x01 => Ok(Event::PowerOn),
+            0x02 => Ok(Event::PowerOff),
+            0x03 => Ok(Event::Heat),
+            0x04 => Ok(Event::Start),
+            0x05 => Ok(Event::Pause),
+            0x06 => Ok(Event::Resume),
+            0x07 => Ok(Event::EndOfJob),
+            0x08 => Ok(Event::Cooled),
+            0x09 => Ok(Event::IntoService),
+            0x0a => Ok(Event::OutOfService),
+            0x0b => Ok(Event::Fault),
+            _ => Err(UnknownEvent(code)),
+        }
     }
 }

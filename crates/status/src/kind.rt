@@ -1,5 +1,5 @@
 // What transitions do to a status, and the words that they are kept as.
-ghost use Rattle.std.specs.Prelude.{◌≡◌, map, Some, None, MatchBool};
+ghost use Rattle.std.specs.Prelude.{◌≡◌, false, map, Some, None, IsTrue};
 ghost use Rattle.std.proofs.Common.{sym, ap, ◌∙◌};
 ghost use Rattle.words.specs.declared.EffectWords.{EffectWords};
 ghost use Rattle.status.specs.declared.Transitions.{Transitions};
@@ -12,6 +12,7 @@ ghost use Rattle.status.specs.Octals.{transitions_reads_back, transitions_reads_
 
 use super::{Status, Transitions};
 use effects::Effect;
+use std::array;
 use words::{EffectWords, StateWords};
 
 impl Status {
@@ -21,7 +22,7 @@ impl Status {
         self as u8
     }
 
-    // The status of a code. There is none above 7, which is taken for 7.
+    // The status of a code. There is none above 7, which is taken for 7; `TryFrom` would have an error that never is.
     pub(crate) fn of_digit(digit: u8) -> Status
         ensures { result ≡ status_of digit }
     {
@@ -39,83 +40,67 @@ impl Status {
 }
 
 impl Transitions {
+    pub fn new(entries: [Status; 8]) -> Transitions
+        ensures entries { result.entries ≡ entries }
+        ensures same { (f : Transitions) → entries ≡ f.entries → result ≡ f }
+    {
+        Transitions { entries }
+    }
+
     // Each status becomes itself.
     fn identity() -> Transitions
         ensures { result ≡ no_turns }
     {
-        Transitions {
-            entries: [
-                Status::Off,
-                Status::Idle,
-                Status::Heating,
-                Status::Printing,
-                Status::Paused,
-                Status::Cooling,
-                Status::Service,
-                Status::Fault,
-            ],
-        }
+        Transitions::new([
+            Status::Off,
+            Status::Idle,
+            Status::Heating,
+            Status::Printing,
+            Status::Paused,
+            Status::Cooling,
+            Status::Service,
+            Status::Fault,
+        ])
     }
 
     // These transitions and then others, as a new array.
     fn then(self, second: Transitions) -> Transitions
         ensures { result ≡ joined self second }
     {
-        let mut entries = [Status::Off; 8];
-        for i in 0..8 {
-            entries[i] = second.act(self.entries[i]);
-        }
-        Transitions::new(entries)
+        Transitions::new(self.entries.map(|status| second.act(status)))
+    }
+
+    // The codes of the entries as one number, entry i times 8^i.
+    fn to_octal(self) -> u64
+        ensures { result ≡ octal (map code_of self.entries) }
+    {
+        self.entries
+            .iter()
+            .rev()
+            .fold(0, |number, status| number * 8 + status.code() as u64)
     }
 
     // The transitions of the lowest eight octal digits of a number.
     fn from_octal(number: u64) -> Transitions
         ensures { (w : EffectWords) → InRange w → number ≡ w.first → Some result ≡ transitions_read w }
     {
-        Transitions {
-            entries: octal_statuses(number),
-        }
+        Transitions::new(octal_statuses(number))
     }
-
-    pub fn new(entries: [Status; 8]) -> Transitions
-        ensures { result.entries ≡ entries }
-    {
-        Transitions { entries }
-    }
-}
-
-// The codes of the entries as one number, entry i times 8^i.
-fn to_octal(entries: [Status; 8]) -> u64
-    ensures { result ≡ octal (map code_of entries) }
-{
-    let mut number = 0;
-    for i in (0..8).rev() {
-        number = number * 8 + entries[i].code() as u64;
-    }
-    number
 }
 
 // The statuses of the lowest eight octal digits, the lowest first.
 fn octal_statuses(number: u64) -> [Status; 8]
     ensures { result ≡ map status_of (digits 8 number) }
 {
-    let mut entries = [Status::Off; 8];
-    let mut rest = number;
-    for i in 0..8 {
-        entries[i] = Status::of_digit((rest % 8) as u8);
-        rest /= 8;
-    }
-    entries
+    array::from_fn(|i| Status::of_digit(((number >> (3 * i)) % 8) as u8))
 }
 
 // Whether words are those of transitions.
 fn in_range(stored: EffectWords) -> bool
-    ensures { MatchBool result (InRange stored) (transitions_read stored ≡ None) }
+    ensures inside { IsTrue result → InRange stored }
+    ensures outside { result ≡ false → transitions_read stored ≡ None }
 {
-    if stored.first >= 1 << 24 || stored.second != 0 {
-        return false;
-    }
-    true
+    stored.first < 1 << 24 && stored.second == 0
 }
 
 impl Effect for Transitions {
@@ -163,17 +148,13 @@ impl Effect for Transitions {
 
     fn to_words(self) -> EffectWords {
         EffectWords {
-            first: to_octal(self.entries),
+            first: self.to_octal(),
             second: 0,
         }
     }
 
     fn from_words(stored: EffectWords) -> Option<Transitions> {
-        if in_range(stored) {
-            Some(Transitions::from_octal(stored.first))
-        } else {
-            None
-        }
+        in_range(stored).then(|| Transitions::from_octal(stored.first))
     }
 
     fn state_words(status: Status) -> StateWords {

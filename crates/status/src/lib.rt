@@ -5,6 +5,7 @@ ghost use Rattle.std.specs.Prelude.{◌≡◌, length};
 
 mod events;
 mod kind;
+mod names;
 
 // What a printer is doing, in the order of the codes 0 to 7.
 #[derive(Clone, Copy)]
@@ -41,3 +42,7 @@ pub enum Event {
     OutOfService = 0x0a,
     Fault = 0x0b,
 }
+
+// A code that is no event's.
+#[derive(Clone, Copy, Debug, PartialEq, Eq)]
+pub struct UnknownEvent(pub u8);

@@ -1,7 +1,8 @@
 -- Places: ordered by job, and then by signed layer.
-use Rattle.std.specs.Prelude.{ℕ, suc, ◌+◌, ◌-◌, ◌*◌, ◌/◌, ◌%◌, ◌^◌, ◌<◌, Bool, cond, ◌&&◌, ◌||◌, ℤ, pos, negsuc, Some, Option, ◌==◌, nat_lt}
+use Rattle.std.specs.Prelude.{ℕ, suc, ◌+◌, ◌-◌, ◌*◌, ◌/◌, ◌%◌, ◌^◌, ◌<◌, Bool, cond, ◌&&◌, ◌||◌, ℤ, pos, negsuc, List, ◌++◌, Some, codes, Option, ◌==◌, nat_lt}
 use Rattle.std.proofs.Common.{arith, ltb→lt, lt-ltb, le-ltb}
 use Rattle.std.specs.Int.Signed.{le_z, mag}
+use Rattle.std.specs.Fmt.{decimal, signed_decimal}
 use Rattle.std.proofs.Math.Decide.{dec_lt}
 use Rattle.words.specs.Given.{given}
 use Rattle.times.specs.declared.place.Place.{Place}
@@ -33,3 +34,7 @@ place_read w =
       jobs = omega (arith, ltb→lt w (2 ^ 64) small);
       layers = signed_small (w % 2 ^ 32) (omega arith);
     }))
+
+-- a place in words
+abbrev pub place_text : Place → List ℕ
+place_text p = codes "job " ++ decimal p.job ++ codes ", layer " ++ signed_decimal p.layer

@@ -49,7 +49,7 @@ impl Time for Clock {
     ghost only = { λ w a is. clock_from w a is };
 
     fn not_after(self, other: Clock) -> bool {
-        self.seconds <= other.seconds
+        self <= other
     }
 
     fn to_word(self) -> u64 {

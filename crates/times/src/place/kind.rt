@@ -39,7 +39,7 @@ impl Time for Place {
     ghost only = { λ w a is. place_from w a is };
 
     fn not_after(self, other: Place) -> bool {
-        self.job < other.job || (self.job == other.job && self.layer <= other.layer)
+        self <= other
     }
 
     fn to_word(self) -> u64 {

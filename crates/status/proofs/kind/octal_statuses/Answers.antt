@@ -1,20 +1,13 @@
-use Rattle.std.proofs.Common.{map, refl, ◌∙◌, arith, length-set}
+use Rattle.std.proofs.Common.{map, refl, sym, ap, ◌∙◌, rules}
+use Rattle.std.proofs.lemmas.List.{get_or-map}
 use Rattle.status.specs.Codes.{status_of}
 use Rattle.status.specs.Packing.{digits}
-use Rattle.status.specs.Octals.{digit_more, digits_done}
+use Rattle.status.proofs.Arrays.{made}
+use Rattle.status.proofs.Digits.{digit_at}
 use Rattle.status.proofs.kind.octal_statuses.Goals as goal
-
-pub loop-i-init : goal.loop-i-init
-loop-i-init c = (refl, refl)
-
-pub loop-i-preserved : goal.loop-i-preserved
-loop-i-preserved c =
-    let inv = c.loop-i.invariant in
-    let want = map status_of (digits 8 c.args.number) in
-    (length-set c.loop-i.entries c.loop-i.i c.of_digit.result ∙ inv.0, rw c.of_digit.ensures (digit_more c.loop-i.entries want c.loop-i.i c.loop-i.rest c.loop-i-test.true inv.0 inv.1))
 
 pub returns : goal.returns
 returns c =
-    let inv = c.loop-i.invariant in
-    let want = map status_of (digits 8 c.args.number) in
-    digits_done c.loop-i.entries want c.loop-i.i c.loop-i.rest (omega arith) inv.0 inv.1
+    let n = c.args.number in
+    made (map status_of (digits 8 n)) c.from_fn.ensures.items refl
+    (λ q i y d inside k. let digit = ap status_of (sym (digit_at 8 n i 0 inside)) ∙ sym (get_or-map status_of (digits 8 n) i 0 d inside) in search rules)
