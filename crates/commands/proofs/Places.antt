@@ -1,13 +1,14 @@
 -- The place of every refusal of a line is at most 64.
-use Rattle.std.proofs.Common.{◌≡◌, ℕ, suc, ◌+◌, ◌*◌, ◌%◌, ◌<◌, ◌≤◌, Bool, true, false, cond, eqb, ltb, List, [], ◌∷◌, length, get_or, take, drop, is_some, Some, None, Ok, Err, Option, Result, sym, refl, subst, arith}
+use Rattle.std.proofs.Common.{◌≡◌, ℕ, ◌+◌, ◌*◌, ◌%◌, ◌<◌, ◌≤◌, Bool, true, false, cond, eqb, ltb, List, [], ◌∷◌, length, get_or, take, drop, Some, None, Ok, Err, Option, Result, sym, refl, subst, arith}
 use Rattle.std.specs.Option.{ok_or}
 use Rattle.std.specs.Result.{result_and}
 use Rattle.std.proofs.lemmas.Bool.{ltb-false}
+use Rattle.std.proofs.lemmas.List.Quantifiers.{position-Some}
 use Rattle.big_endian.specs.Numbers.{worth}
 use Rattle.text.specs.declared.flaw.Flaw.{Flaw}
 use Rattle.text.specs.declared.flaw.Flaw.TheVariants.{LongLine, NoDigit, OddLength, BadCode, WrongLength, NoTime, OutOfRange}
 use Rattle.text.specs.Flaws.{number_and_place}
-use Rattle.digits.specs.Hex.{digit, no_digit, refused_at, checked, paired, decoded}
+use Rattle.digits.specs.Hex.{no_digit, refused_at, checked, paired, decoded}
 use Rattle.digits.proofs.Round.{half_read, accepted_short}
 use Rattle.commands.specs.Frames.{Forms, and_then, of_length, effect_kind, time_kind, opening_of, number_of, entry_of, question_of, command_of, command_in, command}
 
@@ -38,14 +39,6 @@ near_length code n body short = near_cond (eqb (length body) n) (Ok tt) (Err (Wr
 
 -- ---- digits
 
-within : (i : ℕ) (cs : List ℕ) (p : ℕ) → no_digit i cs ≡ Some p → p < i + length cs
-within i [] p e = let z : ◌≡◌ {A = ℕ} 0 1 = cc in absurd (omega arith)
-within i (c ∷ cs) p e = go (is_some (digit c)) (λ is. within (i + 1) cs p is) e
-  where
-    go : (b : Bool) → (no_digit (i + 1) cs ≡ Some p → p < i + 1 + length cs) → cond b (no_digit (i + 1) cs) (Some i) ≡ Some p → p < i + suc (length cs)
-    go true later is = let h = later is in omega arith
-    go false later is = let same : i ≡ p = cc in omega arith
-
 near_digit : (n : ℕ) (bad : Option ℕ) → n ≤ 64 → ((p : ℕ) → bad ≡ Some p → p < n) → Near (refused_at bad)
 near_digit n None short inside = near_ok tt
 near_digit n (Some p) short inside = near_err (NoDigit p) (let h = inside p refl in omega arith)
@@ -57,11 +50,11 @@ near_both (Err g) s p q = near_err g (p g refl)
 near_decoded : (cs : List ℕ) → Near (decoded cs)
 near_decoded cs =
     near_both (checked cs) (Ok (paired cs))
-    (near_cond (ltb 64 (length cs)) (Err LongLine) (result_and (refused_at (no_digit 0 cs)) (cond (eqb (length cs % 2) 0) (Ok tt) (Err (OddLength (length cs)))))
+    (near_cond (ltb 64 (length cs)) (Err LongLine) (result_and (refused_at (no_digit cs)) (cond (eqb (length cs % 2) 0) (Ok tt) (Err (OddLength (length cs)))))
     (λ _. near_err LongLine (omega arith))
     (λ long. let short = ltb-false 64 (length cs) long in
-    near_both (refused_at (no_digit 0 cs)) (cond (eqb (length cs % 2) 0) (Ok tt) (Err (OddLength (length cs))))
-    (near_digit (length cs) (no_digit 0 cs) short (λ p e. let h = within 0 cs p e in omega arith))
+    near_both (refused_at (no_digit cs)) (cond (eqb (length cs % 2) 0) (Ok tt) (Err (OddLength (length cs))))
+    (near_digit (length cs) (no_digit cs) short (λ p e. (position-Some _ cs p 0 e).0))
     (near_cond (eqb (length cs % 2) 0) (Ok tt) (Err (OddLength (length cs))) (λ _. near_ok tt) (λ _. near_err (OddLength (length cs)) short))))
     (near_ok (paired cs))
 

@@ -7,7 +7,7 @@ ghost use Rattle.commands.specs.declared.command.Command.{Command};
 ghost use Rattle.commands.specs.Frames.{forms, effect_kind, time_kind, opening_of, number_of, entry_of, question_of, command_in, command, written};
 
 use crate::command::{Command, EffectKind, Opening, TimeKind};
-use big_endian::{split_u16, split_u64};
+use big_endian::split;
 use digits::decode;
 use payloads::Payload;
 use text::Flaw;
@@ -88,7 +88,7 @@ fn read_number(code: u8, body: &[u8]) -> Result<u16, Flaw>
     requires { length body.now < 32 }
     ensures { result ≡ number_of code body.now }
 {
-    match split_u16(body) {
+    match split::<u16, 2>(body) {
         Some((number, [])) => Ok(number),
         _ => Err(wrong_length(code, body)),
     }
@@ -99,10 +99,10 @@ fn read_question<T: Time>(code: u8, body: &[u8]) -> Result<(u16, T), Flaw>
     requires { length body.now < 32 }
     ensures { result ≡ question_of T.Time.reads code body.now }
 {
-    let Some((belief, rest)) = split_u16(body) else {
+    let Some((belief, rest)) = split::<u16, 2>(body) else {
         return Err(wrong_length(code, body));
     };
-    let Some((word, [])) = split_u64(rest) else {
+    let Some((word, [])) = split::<u64, 8>(rest) else {
         return Err(wrong_length(code, body));
     };
     match T::from_word(word) {
@@ -119,7 +119,7 @@ fn read_entry<E: Payload, T: Time>(body: &[u8]) -> Result<(T, E::Form), Flaw>
     requires { length body.now < 32 }
     ensures { result ≡ entry_of (forms E.Payload.own T.Time) body.now }
 {
-    let Some((word, rest)) = split_u64(body) else {
+    let Some((word, rest)) = split::<u64, 8>(body) else {
         return Err(wrong_length(0x10, body));
     };
     if rest.len() != E::size_of(rest) {

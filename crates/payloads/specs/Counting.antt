@@ -70,11 +70,8 @@ counter_made bs r₁ r₂ a f m z r long amount rest floor more ceiling cast mad
     ∙ sym (given_passed (nat_le 12 (length bs)) _ (le→leb 12 (length bs) long))
 
 -- three numbers appended one after the other
-pub appended : (e₀ e₁ e₂ e₃ : List ℕ) (a b c a' b' c' : ℕ) → e₁ ≡ e₀ ++ bytes_of 4 a → e₂ ≡ e₁ ++ bytes_of 4 b → e₃ ≡ e₂ ++ bytes_of 4 c → a ≡ a' → b ≡ b' → c ≡ c' →
-    e₃ ≡ e₀ ++ (bytes_of 4 a' ++ (bytes_of 4 b' ++ bytes_of 4 c'))
-appended e₀ e₁ e₂ e₃ a b c a' b' c' p q r x y z =
-    let first : e₁ ≡ e₀ ++ bytes_of 4 a' = p ∙ ap (λ n. e₀ ++ bytes_of 4 n) x in
-    let second : e₂ ≡ e₁ ++ bytes_of 4 b' = q ∙ ap (λ n. e₁ ++ bytes_of 4 n) y in
-    let third : e₃ ≡ e₂ ++ bytes_of 4 c' = r ∙ ap (λ n. e₂ ++ bytes_of 4 n) z in
-    third ∙ ap (λ l. l ++ bytes_of 4 c') (second ∙ ap (λ l. l ++ bytes_of 4 b') first ∙ append_assoc e₀ (bytes_of 4 a') (bytes_of 4 b'))
-    ∙ append_assoc e₀ (bytes_of 4 a' ++ bytes_of 4 b') (bytes_of 4 c')
+pub appended : (e₀ e₁ e₂ e₃ x y z : List ℕ) (a b c : ℕ) → e₁ ≡ e₀ ++ x → e₂ ≡ e₁ ++ y → e₃ ≡ e₂ ++ z → x ≡ bytes_of 4 a → y ≡ bytes_of 4 b → z ≡ bytes_of 4 c →
+    e₃ ≡ e₀ ++ (bytes_of 4 a ++ (bytes_of 4 b ++ bytes_of 4 c))
+appended e₀ e₁ e₂ e₃ x y z a b c p q r first second third =
+    r ∙ ap (λ l. l ++ z) (q ∙ ap (λ l. l ++ y) p) ∙ append_assoc (e₀ ++ x) y z ∙ append_assoc e₀ x (y ++ z)
+    ∙ ap (λ l. e₀ ++ (l ++ (y ++ z))) first ∙ ap (λ l. e₀ ++ (bytes_of 4 a ++ (l ++ z))) second ∙ ap (λ l. e₀ ++ (bytes_of 4 a ++ (bytes_of 4 b ++ l))) third

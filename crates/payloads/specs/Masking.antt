@@ -248,18 +248,10 @@ same_laid m a b c d m' a' b' c' d' p q r s t =
     let laid = λ (m a b c d : ℕ). m ∷ (field_bytes (masked m 0) a ++ (field_bytes (masked m 1) b ++ (field_bytes (masked m 2) c ++ field_bytes (masked m 3) d))) in
     ap (λ x. laid x a b c d) p ∙ ap (λ x. laid m' x b c d) q ∙ ap (λ x. laid m' a' x c d) r ∙ ap (λ x. laid m' a' b' x d) s ∙ ap (λ x. laid m' a' b' c' x) t
 
--- mask and fields appended one after the other, with the lengths so far
-pub settings_appended : (s : Settings) (m a b c d : ℕ) (e₀ e₁ e₂ e₃ e₄ e₅ : List ℕ) (n₀ n₁ n₂ n₃ n₄ n₅ : ℕ) →
+-- mask and fields appended one after the other
+pub settings_appended : (s : Settings) (m a b c d : ℕ) (e₀ e₁ e₂ e₃ e₄ e₅ : List ℕ) →
     m ≡ s.mask → a ≡ s.values.batch → b ≡ s.values.nozzle → c ≡ s.values.plate → d ≡ s.values.profile →
     e₁ ≡ e₀ ++ (m ∷ []) → e₂ ≡ e₁ ++ field_bytes (masked m 0) a → e₃ ≡ e₂ ++ field_bytes (masked m 1) b → e₄ ≡ e₃ ++ field_bytes (masked m 2) c → e₅ ≡ e₄ ++ field_bytes (masked m 3) d →
-    n₁ ≡ n₀ + 1 → n₂ ≡ n₁ + width (masked m 0) → n₃ ≡ n₂ + width (masked m 1) → n₄ ≡ n₃ + width (masked m 2) → n₅ ≡ n₄ + width (masked m 3) →
-    (e₅ ≡ e₀ ++ settings_layout s) × (n₅ ≡ n₀ + length (settings_layout s))
-settings_appended s m a b c d e₀ e₁ e₂ e₃ e₄ e₅ n₀ n₁ n₂ n₃ n₄ n₅ mask f₀ f₁ f₂ f₃ i₁ i₂ i₃ i₄ i₅ l₁ l₂ l₃ l₄ l₅ =
-    let l = length_layout s in
-    let w : widths_of m ≡ widths_of s.mask = ap widths_of mask in (
-      appended_five e₀ e₁ e₂ e₃ e₄ e₅ m _ _ _ _ i₁ i₂ i₃ i₄ i₅ ∙ ap (λ x. e₀ ++ x) (same_laid m a b c d _ _ _ _ _ mask f₀ f₁ f₂ f₃),
-      lengths n₀ n₁ n₂ n₃ n₄ n₅ (width (masked m 0)) (width (masked m 1)) (width (masked m 2)) (width (masked m 3)) (widths_of s.mask) (length (settings_layout s)) w l l₁ l₂ l₃ l₄ l₅,
-    )
-  where
-    lengths : (n₀ n₁ n₂ n₃ n₄ n₅ a b c d w l : ℕ) → a + (b + (c + d)) ≡ w → l ≡ 1 + w → n₁ ≡ n₀ + 1 → n₂ ≡ n₁ + a → n₃ ≡ n₂ + b → n₄ ≡ n₃ + c → n₅ ≡ n₄ + d → n₅ ≡ n₀ + l
-    lengths n₀ n₁ n₂ n₃ n₄ n₅ a b c d w l p q r s t u v = omega arith
+    e₅ ≡ e₀ ++ settings_layout s
+settings_appended s m a b c d e₀ e₁ e₂ e₃ e₄ e₅ mask f₀ f₁ f₂ f₃ i₁ i₂ i₃ i₄ i₅ =
+    appended_five e₀ e₁ e₂ e₃ e₄ e₅ m _ _ _ _ i₁ i₂ i₃ i₄ i₅ ∙ ap (λ x. e₀ ++ x) (same_laid m a b c d _ _ _ _ _ mask f₀ f₁ f₂ f₃)

@@ -1,24 +1,12 @@
 // The payload of a counter: amount, floor and ceiling.
-ghost use Rattle.std.specs.Prelude.{◌≡◌, ◌+◌, ◌≤◌, ◌++◌};
-ghost use Rattle.big_endian.specs.Numbers.{bytes_of};
-ghost use Rattle.digits.specs.Held.{contents};
 ghost use Rattle.payloads.specs.Counters.{counter_layout, counter_parsed};
 ghost use Rattle.payloads.specs.Counting.{counter_again, counter_exact};
 ghost use Rattle.std.proofs.Common.{rules};
 
 use crate::payload::Payload;
-use big_endian::{split_u32, u32_bytes};
+use big_endian::{BigEndian, split};
 use counter::Counter;
 use digits::Bytes;
-
-// Appends a number, where there is room for it.
-fn append_u32(number: u32, out: &mut Bytes)
-    requires { out.old.len + 4 ≤ 32 }
-    ensures items { contents out.new ≡ contents out.old ++ bytes_of 4 number }
-    ensures len { out.new.len ≡ out.old.len + 4 }
-{
-    out.append(&u32_bytes(number));
-}
 
 impl Payload for Counter {
     type Form = Counter;
@@ -48,15 +36,15 @@ impl Payload for Counter {
     }
 
     fn parse(bytes: &[u8]) -> Option<Counter> {
-        let (amount, rest) = split_u32(bytes)?;
-        let (floor, rest) = split_u32(rest)?;
-        let (ceiling, _) = split_u32(rest)?;
+        let (amount, rest) = split::<u32, 4>(bytes)?;
+        let (floor, rest) = split(rest)?;
+        let (ceiling, _) = split(rest)?;
         Counter::new(amount.cast_signed(), floor, ceiling)
     }
 
     fn append(form: Counter, out: &mut Bytes) {
-        append_u32(form.amount().cast_unsigned(), out);
-        append_u32(form.floor(), out);
-        append_u32(form.ceiling(), out);
+        out.append(&form.amount().cast_unsigned().to_bytes());
+        out.append(&form.floor().to_bytes());
+        out.append(&form.ceiling().to_bytes());
     }
 }

@@ -1,12 +1,11 @@
 // The payload of settings: the mask, and a value for each field that it has.
-ghost use Rattle.std.specs.Prelude.{◌≡◌, ◌+◌, ◌<◌, ◌≤◌, ◌++◌};
-ghost use Rattle.digits.specs.Held.{contents};
+ghost use Rattle.std.specs.Prelude.{◌≡◌, ◌+◌, ◌<◌, ◌≤◌, ◌++◌, length};
 ghost use Rattle.settings.specs.Masks.{masked};
 ghost use Rattle.payloads.specs.Setups.{width, field_bytes, Splits, settings_layout, settings_size, settings_in, settings_parsed};
 ghost use Rattle.payloads.specs.Masking.{settings_short, settings_sized, settings_again, settings_exact};
 
 use crate::payload::Payload;
-use big_endian::{split_u16, u16_bytes};
+use big_endian::{BigEndian, split};
 use digits::Bytes;
 use settings::{Settings, Setup};
 
@@ -16,7 +15,7 @@ fn split_field(mask: u8, field: u32, bytes: &[u8]) -> Option<(u16, &[u8])>
     ensures { Splits (masked mask field) bytes.now result }
 {
     if (mask >> field) % 2 == 1 {
-        split_u16(bytes)
+        split(bytes)
     } else {
         Some((0, bytes))
     }
@@ -25,12 +24,12 @@ fn split_field(mask: u8, field: u32, bytes: &[u8]) -> Option<(u16, &[u8])>
 // Appends the value of a field, where the mask has it and there is room.
 fn append_field(mask: u8, field: u32, value: u16, out: &mut Bytes)
     requires place { field < 4 }
-    requires room { out.old.len + width (masked mask field) ≤ 32 }
-    ensures items { contents out.new ≡ contents out.old ++ field_bytes (masked mask field) value }
-    ensures len { out.new.len ≡ out.old.len + width (masked mask field) }
+    requires room { length out.old + width (masked mask field) ≤ 32 }
+    ensures items { out.new ≡ out.old ++ field_bytes (masked mask field) value }
+    ensures len { length out.new ≡ length out.old + width (masked mask field) }
 {
     if (mask >> field) % 2 == 1 {
-        out.append(&u16_bytes(value));
+        out.append(&value.to_bytes());
     }
 }
 

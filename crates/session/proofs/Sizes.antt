@@ -3,7 +3,6 @@ use Rattle.std.proofs.Common.{◌≡◌, ℕ, ◌+◌, ◌*◌, ◌≤◌, List,
 use Rattle.text.specs.declared.flaw.Flaw.{Flaw}
 use Rattle.digits.specs.declared.line.Line.{Line}
 use Rattle.digits.specs.Hex.{encoded}
-use Rattle.digits.specs.Held.{line_digits}
 use Rattle.digits.proofs.Round.{length_encoded}
 use Rattle.calls.specs.declared.answer.Answer.TheVariants.{Changed, InState, Newest, Counted}
 use Rattle.commands.specs.declared.command.Command.{Command}
@@ -25,12 +24,12 @@ answer_short k code (Ok (Newest (Some o))) = lit≤ tt
 answer_short k code (Ok (Counted n)) = lit≤ tt
 answer_short k code (Err r) = lit≤ tt
 
-pub answer_line_short : {S T : Type 0} (k : Shown S T) (code : ℕ) (a : Reply S T) (line : Line) → line_digits line ≡ encoded (answer_bytes k code a) → length (written (Some line)) ≤ 27
+pub answer_line_short : {S T : Type 0} (k : Shown S T) (code : ℕ) (a : Reply S T) (line : Line) → line ≡ encoded (answer_bytes k code a) → length (written (Some line)) ≤ 27
 answer_line_short k code a line is =
     let same = ap (λ ds. length (ds ++ (10 ∷ []))) is in
     omega (arith, same, length_line (answer_bytes k code a), answer_short k code a)
 
-pub flaw_line_short : (flaw : Flaw) (line : Line) → line_digits line ≡ encoded (flaw_bytes flaw) → length (written (Some line)) ≤ 9
+pub flaw_line_short : (flaw : Flaw) (line : Line) → line ≡ encoded (flaw_bytes flaw) → length (written (Some line)) ≤ 9
 flaw_line_short flaw line is =
     let same = ap (λ ds. length (ds ++ (10 ∷ []))) is in
     omega (arith, same, length_line (flaw_bytes flaw))
