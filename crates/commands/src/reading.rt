@@ -60,6 +60,7 @@ impl Frame<'_> {
     }
 
     // The opening that a body asks for.
+    #[tactic(auto, using(crate::proofs::Exits::opening_read))]
     fn opening(&self) -> Result<Opening, Flaw>
         ensures { result ≡ opening_of (code_byte self.now.code) self.now.body.now }
     {
@@ -129,18 +130,16 @@ impl Frame<'_> {
         ensures { result ≡ command_of (forms E.Payload.own T.Time) opened self.now.code self.now.body.now }
     {
         match (opened, self.code) {
-            (false, Code::Open) => {
-                let opening = self.opening()?;
-                Ok(Command::Open { opening })
-            }
+            (false, Code::Open) => Ok(Command::Open {
+                opening: self.opening()?,
+            }),
             (true, Code::Enter) => {
                 let (time, payload) = self.entry::<E, T>()?;
                 Ok(Command::Enter { time, payload })
             }
-            (true, Code::Withdraw) => {
-                let operation = self.number()?;
-                Ok(Command::Withdraw { operation })
-            }
+            (true, Code::Withdraw) => Ok(Command::Withdraw {
+                operation: self.number()?,
+            }),
             (true, Code::State) => {
                 let (belief, time) = self.question::<T>()?;
                 Ok(Command::State { belief, time })
@@ -149,10 +148,9 @@ impl Frame<'_> {
                 let (belief, time) = self.question::<T>()?;
                 Ok(Command::Latest { belief, time })
             }
-            (true, Code::Count) => {
-                let belief = self.number()?;
-                Ok(Command::Count { belief })
-            }
+            (true, Code::Count) => Ok(Command::Count {
+                belief: self.number()?,
+            }),
             _ => Err(Flaw::BadCode),
         }
     }
