@@ -1,12 +1,13 @@
 -- A command's bytes are read as it, and only they are.
-use Rattle.std.proofs.Common.{◌≡◌, ℕ, ◌+◌, ◌*◌, ◌^◌, ◌<◌, ◌≤◌, Bool, true, false, cond, eqb, ◌⊎◌, List, [], ◌∷◌, ◌++◌, length, take, drop, Some, None, Ok, Err, Option, Result, sym, refl, ap, ◌∙◌, inl, inr, ⊎_elim, append-nil, arith}
+use Rattle.std.proofs.Common.{◌≡◌, ℕ, ◌+◌, ◌*◌, ◌^◌, ◌<◌, Bool, true, false, cond, eqb, ◌⊎◌, List, [], ◌∷◌, ◌++◌, length, take, drop, Some, None, Ok, Err, Option, Result, sym, refl, ap, ◌∙◌, inl, inr, ⊎_elim, append-nil, arith}
 use Rattle.std.specs.Option.{ok_or}
 use Rattle.std.specs.Int.Digits.{AllBelowBase}
 use Rattle.std.proofs.lemmas.Bool.{eq-eqb, eqb-true, cond-true}
-use Rattle.std.proofs.ByRecursion.{All-take, All-drop}
-use Rattle.std.proofs.lemmas.List.{take_all, take-append-drop, length-take-le, length-drop}
+use Rattle.std.proofs.ByRecursion.{All-drop}
+use Rattle.std.proofs.lemmas.List.{take_all, take-append-drop, length-drop}
 use Rattle.big_endian.specs.Numbers.{bytes_of, worth}
 use Rattle.big_endian.proofs.Numbering.{worth_bytes, bytes_worth}
+use Rattle.payloads.specs.Fronts.{front_back}
 use Rattle.text.specs.declared.flaw.Flaw.{Flaw}
 use Rattle.text.specs.declared.flaw.Flaw.TheVariants.{BadCode, WrongLength, NoTime, OutOfRange}
 use Rattle.commands.specs.declared.command.EffectKind.{EffectKind}
@@ -42,9 +43,6 @@ ok_same : {A : Type 0} (a b : A) → ◌≡◌ {A = Result A Flaw} (Ok a) (Ok b)
 ok_same a b e = cc
 
 -- ---- numbers at the front of bytes
-
-front_back : (width : ℕ) (bs : List ℕ) → AllBelowBase 256 bs → width ≤ length bs → bytes_of width (worth (take width bs)) ≡ take width bs
-front_back width bs u long = bytes_worth width (take width bs) (length-take-le width bs long) (All-take (λ b. b < 256) width bs u)
 
 whole_back : (width : ℕ) (bs : List ℕ) → AllBelowBase 256 bs → length bs ≡ width → bytes_of width (worth (take width bs)) ≡ bs
 whole_back width bs u long = front_back width bs u (omega arith) ∙ take_all width bs (omega arith)

@@ -3,6 +3,7 @@
 
 pub mod codes;
 pub mod command;
+pub mod display;
 mod frame;
 pub mod reading;
 pub mod writing;

@@ -67,12 +67,8 @@ impl Frame<'_> {
         let [effects, times, high, low] = self.body else {
             return Err(self.wrong_length());
         };
-        let Ok(effects) = EffectKind::try_from(*effects) else {
-            return Err(self.out_of_range(EFFECTS_AT));
-        };
-        let Ok(times) = TimeKind::try_from(*times) else {
-            return Err(self.out_of_range(TIMES_AT));
-        };
+        let effects = EffectKind::try_from(*effects).or(Err(self.out_of_range(EFFECTS_AT)))?;
+        let times = TimeKind::try_from(*times).or(Err(self.out_of_range(TIMES_AT)))?;
         Ok(Opening {
             effects,
             times,
@@ -94,35 +90,25 @@ impl Frame<'_> {
     fn question<T: Time>(&self) -> Result<(u16, T), Flaw>
         ensures { result ≡ question_of T.Time.reads (code_byte self.now.code) self.now.body.now }
     {
-        let Some((belief, rest)) = split::<u16, 2>(self.body) else {
-            return Err(self.wrong_length());
-        };
+        let (belief, rest) = split::<u16, 2>(self.body).ok_or(self.wrong_length())?;
         let Some((word, [])) = split::<u64, 8>(rest) else {
             return Err(self.wrong_length());
         };
-        match T::from_word(word) {
-            Some(time) => Ok((belief, time)),
-            None => Err(self.no_time(QUESTION_TIME_AT)),
-        }
+        let time = T::from_word(word).ok_or(self.no_time(QUESTION_TIME_AT))?;
+        Ok((belief, time))
     }
 
     // The time and the payload of an entry.
     fn entry<E: Payload, T: Time>(&self) -> Result<(T, E::Form), Flaw>
         ensures { result ≡ entry_of (forms E.Payload.own T.Time) (code_byte self.now.code) self.now.body.now }
     {
-        let Some((word, rest)) = split::<u64, 8>(self.body) else {
-            return Err(self.wrong_length());
-        };
+        let (word, rest) = split::<u64, 8>(self.body).ok_or(self.wrong_length())?;
         if rest.len() != E::size_of(rest) {
             return Err(self.wrong_length());
         }
-        let Some(time) = T::from_word(word) else {
-            return Err(self.no_time(ENTRY_TIME_AT));
-        };
-        match E::parse(rest) {
-            Some(payload) => Ok((time, payload)),
-            None => Err(self.out_of_range(PAYLOAD_AT)),
-        }
+        let time = T::from_word(word).ok_or(self.no_time(ENTRY_TIME_AT))?;
+        let payload = E::parse(rest).ok_or(self.out_of_range(PAYLOAD_AT))?;
+        Ok((time, payload))
     }
 
     // The command of a frame, where the record is opened or not.
@@ -161,12 +147,8 @@ fn command_in<E: Payload, T: Time>(bytes: &[u8], opened: bool) -> Result<Command
     requires { length bytes.now ≤ 32 }
     ensures { result ≡ command_in (forms E.Payload.own T.Time) opened bytes.now }
 {
-    let Some((code, body)) = bytes.split_first() else {
-        return Err(Flaw::BadCode);
-    };
-    let Ok(code) = Code::try_from(*code) else {
-        return Err(Flaw::BadCode);
-    };
+    let (code, body) = bytes.split_first().ok_or(Flaw::BadCode)?;
+    let code = Code::try_from(*code).or(Err(Flaw::BadCode))?;
     Frame { code, body }.command::<E, T>(opened)
 }
 
