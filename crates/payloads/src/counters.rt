@@ -1,4 +1,7 @@
 // The payload of a counter: amount, floor and ceiling.
+ghost use Rattle.std.specs.Prelude.{◌≡◌};
+ghost use Rattle.big_endian.specs.Numbers.{bytes_of};
+ghost use Rattle.times.specs.Places.{twos_complement, signed};
 ghost use Rattle.payloads.specs.Counters.{counter_layout, counter_parsed};
 ghost use Rattle.payloads.specs.Counting.{counter_again, counter_exact};
 ghost use Rattle.std.proofs.Common.{rules};
@@ -7,6 +10,20 @@ use crate::payload::Payload;
 use big_endian::{BigEndian, split};
 use counter::Counter;
 use digits::Bytes;
+
+// The bytes of a counter's amount, in two's complement.
+fn amount_bytes(counter: Counter) -> [u8; 4]
+    ensures { result ≡ bytes_of 4 (twos_complement counter.amount) }
+{
+    counter.amount().cast_unsigned().to_bytes()
+}
+
+// The amount whose two's complement a number is.
+fn amount_of(number: u32) -> i32
+    ensures { result ≡ signed number }
+{
+    number.cast_signed()
+}
 
 impl Payload for Counter {
     type Form = Counter;
@@ -35,15 +52,16 @@ impl Payload for Counter {
         12
     }
 
+    #[tactic(auto, using(crate::specs::Counting::counter_made))]
     fn parse(bytes: &[u8]) -> Option<Counter> {
         let (amount, rest) = split::<u32, 4>(bytes)?;
         let (floor, rest) = split(rest)?;
         let (ceiling, _) = split(rest)?;
-        Counter::new(amount.cast_signed(), floor, ceiling)
+        Counter::new(amount_of(amount), floor, ceiling)
     }
 
     fn append(form: Counter, out: &mut Bytes) {
-        out.append(&form.amount().cast_unsigned().to_bytes());
+        out.append(&amount_bytes(form));
         out.append(&form.floor().to_bytes());
         out.append(&form.ceiling().to_bytes());
     }
