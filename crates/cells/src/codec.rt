@@ -10,6 +10,7 @@ use words::EffectWords;
 pub const WORDS_BYTES: usize = 16;
 
 // The width of a cell, and where its parts begin.
+// Parts pushed one after another would have to be taken out as an array of this width again: that is no plainer.
 pub const CELL_BYTES: usize = TOTAL + WORDS_BYTES;
 
 const TIME: usize = 0;
