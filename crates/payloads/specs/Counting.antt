@@ -1,9 +1,8 @@
 -- A counter's bytes are read as it, whatever follows them, and only they are.
 use Rattle.std.specs.Prelude.{◌≡◌, ℕ, ◌^◌, ◌<◌, ◌≤◌, List, ◌++◌, length, take, drop, ℤ, pos, negsuc, ◌≤ℤ◌, Some, nat_le, refl}
-use Rattle.std.proofs.Common.{sym, ap, ◌∙◌, append_assoc, arith, le→leb, leb→le, of_z, to_z, length-drop, take-append-drop}
+use Rattle.std.proofs.Common.{sym, ap, ◌∙◌, append_assoc, arith, le→leb, leb→le, length-drop, take-append-drop}
 use Rattle.std.specs.Int.Signed.{mag}
 use Rattle.std.proofs.lemmas.Int.{ints}
-use Rattle.std.specs.Int.{w32}
 use Rattle.std.specs.Int.Digits.{AllBelowBase}
 use Rattle.std.proofs.ByRecursion.{All-drop}
 use Rattle.words.proofs.Giving.{given_passed, given_some}
@@ -20,11 +19,6 @@ use Rattle.payloads.specs.Fronts.{front_back, front_below, begins}
 small_amount : (z : ℤ) → negsuc 999999 ≤ℤ z → z ≤ℤ pos 1000000 → mag z < 2 ^ 31
 small_amount (pos n) low high = omega (arith, ints)
 small_amount (negsuc n) low high = omega (arith, ints)
-
--- what the cast of an amount gives
-pub amount_bits : (z : ℤ) → negsuc 999999 ≤ℤ z → z ≤ℤ pos 1000000 → of_z w32 (to_z w32 (of_z w32 z)) ≡ twos_complement z
-amount_bits (pos n) low high = omega (arith, ints)
-amount_bits (negsuc n) low high = omega (arith, ints)
 
 pub counter_again : (c : Counter) (rest : List ℕ) → counter_parsed (counter_layout c ++ rest) ≡ Some c
 counter_again c rest =
@@ -68,8 +62,11 @@ counter_made bs a f m long amount floor ceiling =
     ∙ sym (given_passed (nat_le 12 (length bs)) _ (le→leb 12 (length bs) long))
 
 -- three numbers appended one after the other
-pub appended : (e₀ e₁ e₂ e₃ x y z : List ℕ) (a b c : ℕ) → e₁ ≡ e₀ ++ x → e₂ ≡ e₁ ++ y → e₃ ≡ e₂ ++ z → x ≡ bytes_of 4 a → y ≡ bytes_of 4 b → z ≡ bytes_of 4 c →
-    e₃ ≡ e₀ ++ (bytes_of 4 a ++ (bytes_of 4 b ++ bytes_of 4 c))
-appended e₀ e₁ e₂ e₃ x y z a b c p q r first second third =
-    r ∙ ap (λ l. l ++ z) (q ∙ ap (λ l. l ++ y) p) ∙ append_assoc (e₀ ++ x) y z ∙ append_assoc e₀ x (y ++ z)
-    ∙ ap (λ l. e₀ ++ (l ++ (y ++ z))) first ∙ ap (λ l. e₀ ++ (bytes_of 4 a ++ (l ++ z))) second ∙ ap (λ l. e₀ ++ (bytes_of 4 a ++ (bytes_of 4 b ++ l))) third
+pub appended : (e₀ e₁ e₂ e₃ : List ℕ) (a b c a' b' c' : ℕ) → e₁ ≡ e₀ ++ bytes_of 4 a → e₂ ≡ e₁ ++ bytes_of 4 b → e₃ ≡ e₂ ++ bytes_of 4 c → a ≡ a' → b ≡ b' → c ≡ c' →
+    e₃ ≡ e₀ ++ (bytes_of 4 a' ++ (bytes_of 4 b' ++ bytes_of 4 c'))
+appended e₀ e₁ e₂ e₃ a b c a' b' c' p q r x y z =
+    let first : e₁ ≡ e₀ ++ bytes_of 4 a' = p ∙ ap (λ n. e₀ ++ bytes_of 4 n) x in
+    let second : e₂ ≡ e₁ ++ bytes_of 4 b' = q ∙ ap (λ n. e₁ ++ bytes_of 4 n) y in
+    let third : e₃ ≡ e₂ ++ bytes_of 4 c' = r ∙ ap (λ n. e₂ ++ bytes_of 4 n) z in
+    third ∙ ap (λ l. l ++ bytes_of 4 c') (second ∙ ap (λ l. l ++ bytes_of 4 b') first ∙ append_assoc e₀ (bytes_of 4 a') (bytes_of 4 b'))
+    ∙ append_assoc e₀ (bytes_of 4 a' ++ bytes_of 4 b') (bytes_of 4 c')

@@ -1,5 +1,5 @@
 // The payload of a counter: amount, floor and ceiling.
-ghost use Rattle.std.specs.Prelude.{◌≡◌};
+ghost use Rattle.std.specs.Prelude.{◌≡◌, ◌+◌, ◌≤◌, ◌++◌, length};
 ghost use Rattle.big_endian.specs.Numbers.{bytes_of};
 ghost use Rattle.times.specs.Places.{twos_complement, signed};
 ghost use Rattle.payloads.specs.Counters.{counter_layout, counter_parsed};
@@ -11,11 +11,11 @@ use big_endian::{BigEndian, split};
 use counter::Counter;
 use digits::Bytes;
 
-// The bytes of a counter's amount, in two's complement.
-fn amount_bytes(counter: Counter) -> [u8; 4]
-    ensures { result ≡ bytes_of 4 (twos_complement counter.amount) }
+// A counter's amount in two's complement.
+fn amount_bits(counter: Counter) -> u32
+    ensures { result ≡ twos_complement counter.amount }
 {
-    counter.amount().cast_unsigned().to_bytes()
+    counter.amount().cast_unsigned()
 }
 
 // The amount whose two's complement a number is.
@@ -23,6 +23,14 @@ fn amount_of(number: u32) -> i32
     ensures { result ≡ signed number }
 {
     number.cast_signed()
+}
+
+// Appends the bytes of a number, where there is room.
+fn append_number(number: u32, out: &mut Bytes)
+    requires { length out.old + 4 ≤ 32 }
+    ensures { out.new ≡ out.old ++ bytes_of 4 number }
+{
+    out.append(&number.to_bytes());
 }
 
 impl Payload for Counter {
@@ -61,8 +69,8 @@ impl Payload for Counter {
     }
 
     fn append(form: Counter, out: &mut Bytes) {
-        out.append(&amount_bytes(form));
-        out.append(&form.floor().to_bytes());
-        out.append(&form.ceiling().to_bytes());
+        append_number(amount_bits(form), out);
+        append_number(form.floor(), out);
+        append_number(form.ceiling(), out);
     }
 }

@@ -4,5 +4,6 @@ use Rattle.payloads.proofs.counters.CounterPayload.append.Goals as goal
 
 pub returns : goal.returns
 returns c =
-    appended c.args.out.now c.append.new.self c.append-2.new.self c.append-3.new.self _ _ _ _ c.args.form.floor c.args.form.ceiling
-    c.append.ensures c.append-2.ensures c.append-3.ensures c.amount_bytes.ensures (cc) (cc)
+    appended c.args.out.now c.append_number.new.out c.append_number-2.new.out c.append_number-3.new.out c.amount_bits.result c.floor.result c.ceiling.result
+    _ c.args.form.floor c.args.form.ceiling
+    c.append_number.ensures c.append_number-2.ensures c.append_number-3.ensures c.amount_bits.ensures c.floor.ensures c.ceiling.ensures
