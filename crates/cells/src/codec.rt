@@ -3,13 +3,14 @@ ghost use Rattle.std.specs.Prelude.{◌≡◌, ◌+◌, ◌≤◌, length};
 ghost use Rattle.cells.specs.Layout.{layout, words_layout, cell_of, words_at, words_width, worth_at};
 
 use crate::Cell;
-use big_endian::{overwrite, u32_bytes, u64_bytes};
+use big_endian::{BigEndian, overwrite};
 use words::EffectWords;
 
 // The width of an effect's words.
 pub const WORDS_BYTES: usize = 16;
 
 // The width of a cell, and where its parts begin.
+// Parts pushed one after another would have to be taken out as an array of this width again: that is no plainer.
 pub const CELL_BYTES: usize = TOTAL + WORDS_BYTES;
 
 const TIME: usize = 0;
@@ -32,11 +33,11 @@ pub fn encode(cell: Cell) -> [u8; CELL_BYTES]
     ensures back { cell_of result ≡ cell }
 {
     let mut bytes = [0; CELL_BYTES];
-    overwrite(&mut bytes, TIME, &u64_bytes(cell.time));
-    overwrite(&mut bytes, NUMBER, &u32_bytes(cell.number));
-    overwrite(&mut bytes, LEFT, &u32_bytes(cell.left));
-    overwrite(&mut bytes, RIGHT, &u32_bytes(cell.right));
-    overwrite(&mut bytes, HEIGHT, &u32_bytes(cell.height));
+    overwrite(&mut bytes, TIME, &cell.time.to_bytes());
+    overwrite(&mut bytes, NUMBER, &cell.number.to_bytes());
+    overwrite(&mut bytes, LEFT, &cell.left.to_bytes());
+    overwrite(&mut bytes, RIGHT, &cell.right.to_bytes());
+    overwrite(&mut bytes, HEIGHT, &cell.height.to_bytes());
     overwrite(&mut bytes, OWN, &words_bytes(cell.own));
     overwrite(&mut bytes, TOTAL, &words_bytes(cell.total));
     bytes
@@ -47,8 +48,8 @@ fn words_bytes(words: EffectWords) -> [u8; WORDS_BYTES]
     ensures { result ≡ words_layout words }
 {
     let mut bytes = [0; WORDS_BYTES];
-    overwrite(&mut bytes, 0, &u64_bytes(words.first));
-    overwrite(&mut bytes, 8, &u64_bytes(words.second));
+    overwrite(&mut bytes, 0, &words.first.to_bytes());
+    overwrite(&mut bytes, 8, &words.second.to_bytes());
     bytes
 }
 
@@ -58,11 +59,11 @@ pub fn decode(bytes: &[u8; CELL_BYTES]) -> Cell
     ensures back { layout result ≡ bytes.now }
 {
     Cell {
-        time: u64_at(bytes, TIME),
-        number: u32_at(bytes, NUMBER),
-        left: u32_at(bytes, LEFT),
-        right: u32_at(bytes, RIGHT),
-        height: u32_at(bytes, HEIGHT),
+        time: number_at(bytes, TIME),
+        number: number_at(bytes, NUMBER),
+        left: number_at(bytes, LEFT),
+        right: number_at(bytes, RIGHT),
+        height: number_at(bytes, HEIGHT),
         own: words_at(bytes, OWN),
         total: words_at(bytes, TOTAL),
     }
@@ -74,27 +75,17 @@ fn words_at(bytes: &[u8], at: usize) -> EffectWords
     ensures { result ≡ words_at bytes.now at }
 {
     EffectWords {
-        first: u64_at(bytes, at),
-        second: u64_at(bytes, at + 8),
+        first: number_at(bytes, at),
+        second: number_at(bytes, at + 8),
     }
 }
 
-// The number of eight bytes from place `at` on.
-fn u64_at(bytes: &[u8], at: usize) -> u64
-    requires { at + 8 ≤ length bytes.now }
-    ensures { result ≡ worth_at bytes.now at 8 }
+// The number that is written from place `at` on, in as many bytes as it has.
+fn number_at<T: BigEndian<N>, const N: usize>(bytes: &[u8], at: usize) -> T
+    requires { at + N ≤ length bytes.now }
+    ensures { T.number result ≡ worth_at bytes.now at N }
 {
-    let mut part = [0; 8];
-    part.copy_from_slice(&bytes[at..at + 8]);
-    u64::from_be_bytes(part)
-}
-
-// The number of four bytes from place `at` on.
-fn u32_at(bytes: &[u8], at: usize) -> u32
-    requires { at + 4 ≤ length bytes.now }
-    ensures { result ≡ worth_at bytes.now at 4 }
-{
-    let mut part = [0; 4];
-    part.copy_from_slice(&bytes[at..at + 4]);
-    u32::from_be_bytes(part)
+    let mut part = [0; N];
+    part.copy_from_slice(&bytes[at..at + N]);
+    T::from_bytes(&part)
 }

@@ -1,4 +1,3 @@
 pub mod Exits
-pub mod Framing
 pub mod RoundTrip
 pub mod Places

@@ -1,12 +1,13 @@
 -- A command's bytes are read as it, and only they are.
-use Rattle.std.proofs.Common.{◌≡◌, ℕ, ◌+◌, ◌*◌, ◌^◌, ◌<◌, ◌≤◌, Bool, true, false, cond, eqb, ◌⊎◌, List, [], ◌∷◌, ◌++◌, length, take, drop, Some, None, Ok, Err, Option, Result, sym, refl, ap, ◌∙◌, inl, inr, ⊎_elim, append-nil, arith}
+use Rattle.std.proofs.Common.{◌≡◌, ℕ, ◌+◌, ◌*◌, ◌^◌, ◌<◌, Bool, true, false, cond, eqb, ◌⊎◌, List, [], ◌∷◌, ◌++◌, length, take, drop, Some, None, Ok, Err, Option, Result, sym, refl, ap, ◌∙◌, inl, inr, ⊎_elim, append-nil, arith}
 use Rattle.std.specs.Option.{ok_or}
 use Rattle.std.specs.Int.Digits.{AllBelowBase}
 use Rattle.std.proofs.lemmas.Bool.{eq-eqb, eqb-true, cond-true}
-use Rattle.std.proofs.ByRecursion.{All-take, All-drop}
-use Rattle.std.proofs.lemmas.List.{take_all, take-append-drop, length-take-le, length-drop}
+use Rattle.std.proofs.ByRecursion.{All-drop}
+use Rattle.std.proofs.lemmas.List.{take_all, take-append-drop, length-drop}
 use Rattle.big_endian.specs.Numbers.{bytes_of, worth}
 use Rattle.big_endian.proofs.Numbering.{worth_bytes, bytes_worth}
+use Rattle.payloads.specs.Fronts.{front_back}
 use Rattle.text.specs.declared.flaw.Flaw.{Flaw}
 use Rattle.text.specs.declared.flaw.Flaw.TheVariants.{BadCode, WrongLength, NoTime, OutOfRange}
 use Rattle.commands.specs.declared.command.EffectKind.{EffectKind}
@@ -16,7 +17,10 @@ use Rattle.commands.specs.declared.command.TimeKind.TheVariants.{Clock, Place}
 use Rattle.commands.specs.declared.command.Opening.{Opening}
 use Rattle.commands.specs.declared.command.Command.{Command}
 use Rattle.commands.specs.declared.command.Command.TheVariants.{Open, Enter, Withdraw, State, Latest, Count}
-use Rattle.commands.specs.Frames.{Forms, and_then, of_length, effect_code, effect_kind, time_code, time_kind, opening_of, number_of, entry_of, question_of, frame, command_of, command_in, wants_open, Narrow}
+use Rattle.commands.specs.declared.command.Code.{Code}
+use Rattle.commands.specs.declared.command.Code.TheVariants as codes
+use Rattle.commands.specs.Codes.{effect_code, effect_kind, time_code, time_kind, code_byte, code_of}
+use Rattle.commands.specs.Frames.{Forms, and_then, of_length, opening_of, number_of, entry_of, question_of, frame, command_of, command_in, wants_open, Narrow}
 
 -- ---- what an accepted step says
 
@@ -40,9 +44,6 @@ ok_same a b e = cc
 
 -- ---- numbers at the front of bytes
 
-front_back : (width : ℕ) (bs : List ℕ) → AllBelowBase 256 bs → width ≤ length bs → bytes_of width (worth (take width bs)) ≡ take width bs
-front_back width bs u long = bytes_worth width (take width bs) (length-take-le width bs long) (All-take (λ b. b < 256) width bs u)
-
 whole_back : (width : ℕ) (bs : List ℕ) → AllBelowBase 256 bs → length bs ≡ width → bytes_of width (worth (take width bs)) ≡ bs
 whole_back width bs u long = front_back width bs u (omega arith) ∙ take_all width bs (omega arith)
 
@@ -54,7 +55,7 @@ number_exact code n body u e =
 
 -- ---- openings
 
-opening_back : (e : EffectKind) (t : TimeKind) (q : ℕ) → q < 2 ^ 16 → opening_of (effect_code e ∷ (time_code t ∷ bytes_of 2 q)) ≡ Ok (record { effects = e; times = t; quota = q })
+opening_back : (e : EffectKind) (t : TimeKind) (q : ℕ) → q < 2 ^ 16 → opening_of 1 (effect_code e ∷ (time_code t ∷ bytes_of 2 q)) ≡ Ok (record { effects = e; times = t; quota = q })
 opening_back Counter Clock q h = ap (λ n. Ok (record { effects = Counter; times = Clock; quota = n })) (worth_bytes 2 q h)
 opening_back Counter Place q h = ap (λ n. Ok (record { effects = Counter; times = Place; quota = n })) (worth_bytes 2 q h)
 opening_back Settings Clock q h = ap (λ n. Ok (record { effects = Settings; times = Clock; quota = n })) (worth_bytes 2 q h)
@@ -71,7 +72,7 @@ time_exact : (b : ℕ) (t : TimeKind) → time_kind b ≡ Some t → time_code t
 time_exact b Clock is = grind arith
 time_exact b Place is = grind arith
 
-opening_exact : (o : Opening) (body : List ℕ) → AllBelowBase 256 body → Ok o ≡ opening_of body → effect_code o.effects ∷ (time_code o.times ∷ bytes_of 2 o.quota) ≡ body
+opening_exact : (o : Opening) (body : List ℕ) → AllBelowBase 256 body → Ok o ≡ opening_of 1 body → effect_code o.effects ∷ (time_code o.times ∷ bytes_of 2 o.quota) ≡ body
 opening_exact o [] u e = let z : ◌≡◌ {A = ℕ} 0 1 = cc in absurd (omega arith)
 opening_exact o (a ∷ []) u e = let z : ◌≡◌ {A = ℕ} 0 1 = cc in absurd (omega arith)
 opening_exact o (a ∷ b ∷ body) u e =
@@ -86,6 +87,14 @@ opening_exact o (a ∷ b ∷ body) u e =
     ap (λ p. effect_code p.effects ∷ (time_code p.times ∷ bytes_of 2 p.quota)) same
     ∙ ap (λ x. x ∷ (time_code times.0 ∷ bytes_of 2 (worth body))) first ∙ ap (λ x. a ∷ (x ∷ bytes_of 2 (worth body))) second ∙ ap (λ l. a ∷ (b ∷ l)) third
 
+code_exact : (b : ℕ) (code : Code) → code_of b ≡ Some code → code_byte code ≡ b
+code_exact b codes.Open is = grind arith
+code_exact b codes.Enter is = grind arith
+code_exact b codes.Withdraw is = grind arith
+code_exact b codes.State is = grind arith
+code_exact b codes.Latest is = grind arith
+code_exact b codes.Count is = grind arith
+
 -- ---- over a lawful kind of payload and a lawful kind of time
 
 module _ {P T : Type 0} (k : Forms P T)
@@ -95,7 +104,7 @@ module _ {P T : Type 0} (k : Forms P T)
   timed : (t : T) → k.time (worth (bytes_of 8 (k.word t))) ≡ Some t
   timed t = ap k.time (worth_bytes 8 (k.word t) (small t)) ∙ time_back t
 
-  entry_back : (t : T) (p : P) → entry_of k (bytes_of 8 (k.word t) ++ k.layout p) ≡ Ok (t, p)
+  entry_back : (t : T) (p : P) → entry_of k 16 (bytes_of 8 (k.word t) ++ k.layout p) ≡ Ok (t, p)
   entry_back t p =
       let size : k.size (k.layout p) ≡ length (k.layout p) = ap k.size (sym (append-nil (k.layout p))) ∙ sized p [] in
       let body = bytes_of 8 (k.word t) ++ k.layout p in
@@ -117,7 +126,7 @@ module _ {P T : Type 0} (k : Forms P T)
   command_back (Latest b t) h = ap (λ r. and_then r (λ q. Ok (Latest q.0 q.1))) (question_back 33 b t h)
   command_back (Count b) h = ap (λ m. Ok (Count m)) (worth_bytes 2 b h)
 
-  entry_exact : (e : T × P) (body : List ℕ) → AllBelowBase 256 body → Ok e ≡ entry_of k body → bytes_of 8 (k.word e.0) ++ k.layout e.1 ≡ body
+  entry_exact : (e : T × P) (body : List ℕ) → AllBelowBase 256 body → Ok e ≡ entry_of k 16 body → bytes_of 8 (k.word e.0) ++ k.layout e.1 ≡ body
   entry_exact e body u is =
       let right = accepted_then (of_length 16 (8 + k.size (drop 8 body)) body) _ e is in
       let long = accepted_length 16 (8 + k.size (drop 8 body)) body right.0 right.1 in
@@ -149,41 +158,29 @@ module _ {P T : Type 0} (k : Forms P T)
   never : {X : Type 0} (c : Command P T) (f : Flaw) → ◌≡◌ {A = Result (Command P T) Flaw} (Ok c) (Err f) → X
   never c f e = let z : ◌≡◌ {A = ℕ} 0 1 = cc in absurd (omega arith)
 
-  -- a code n with the body that a command c was read from
-  coded : (code n : ℕ) (body parts : List ℕ) (c d : Command P T) → eqb code n ≡ true → c ≡ d → frame k d ≡ n ∷ parts → parts ≡ body → frame k c ≡ code ∷ body
-  coded code n body parts c d is same whole rest = ap (frame k) same ∙ whole ∙ ap (λ l. n ∷ l) rest ∙ ap (λ x. x ∷ body) (sym (eqb-true code n is))
+  -- a code n and the body that a command c was read from
+  framed : (n : ℕ) (body parts : List ℕ) (c d : Command P T) → ◌≡◌ {A = Result (Command P T) Flaw} (Ok c) (Ok d) → frame k d ≡ n ∷ parts → parts ≡ body → frame k c ≡ n ∷ body
+  framed n body parts c d same whole rest = ap (frame k) (ok_same c d same) ∙ whole ∙ ap (λ l. n ∷ l) rest
+
+  coded_exact : (opened : Bool) (code : Code) (body : List ℕ) (c : Command P T) → AllBelowBase 256 body → Ok c ≡ command_of k opened code body → frame k c ≡ code_byte code ∷ body
+  coded_exact false codes.Open body c u e = let o = accepted_then (opening_of 1 body) _ c e in framed 1 body _ c (Open o.0) o.2 refl (opening_exact o.0 body u o.1)
+  coded_exact false codes.Enter body c u e = never c BadCode e
+  coded_exact false codes.Withdraw body c u e = never c BadCode e
+  coded_exact false codes.State body c u e = never c BadCode e
+  coded_exact false codes.Latest body c u e = never c BadCode e
+  coded_exact false codes.Count body c u e = never c BadCode e
+  coded_exact true codes.Open body c u e = never c BadCode e
+  coded_exact true codes.Enter body c u e = let f = accepted_then (entry_of k 16 body) _ c e in framed 16 body _ c (Enter f.0.0 f.0.1) f.2 refl (entry_exact f.0 body u f.1)
+  coded_exact true codes.Withdraw body c u e = let n = accepted_then (number_of 17 body) _ c e in framed 17 body _ c (Withdraw n.0) n.2 refl (number_exact 17 n.0 body u n.1)
+  coded_exact true codes.State body c u e =
+      let q = accepted_then (question_of k.time 32 body) _ c e in framed 32 body _ c (State q.0.0 q.0.1) q.2 refl (question_exact 32 q.0 body u q.1)
+  coded_exact true codes.Latest body c u e =
+      let q = accepted_then (question_of k.time 33 body) _ c e in framed 33 body _ c (Latest q.0.0 q.0.1) q.2 refl (question_exact 33 q.0 body u q.1)
+  coded_exact true codes.Count body c u e = let n = accepted_then (number_of 34 body) _ c e in framed 34 body _ c (Count n.0) n.2 refl (number_exact 34 n.0 body u n.1)
 
   -- only a command's bytes are read as it
   pub command_exact : (opened : Bool) (bs : List ℕ) (c : Command P T) → AllBelowBase 256 bs → Ok c ≡ command_in k opened bs → frame k c ≡ bs
   command_exact opened [] c u e = never c BadCode e
-  command_exact false (code ∷ body) c u e =
-      ⊎_elim
-      (λ h. let o = accepted_then (opening_of body) _ c h.1 in coded code 1 body _ c (Open o.0) h.0 (ok_same c (Open o.0) o.2) refl (opening_exact o.0 body u.1 o.1))
-      (λ h. never c BadCode h)
-      (accepted_cond (eqb code 1) _ (Err BadCode) c e)
-  command_exact true (code ∷ body) c u e = one e
-    where
-      five : Ok c ≡ cond (eqb code 34) (and_then (number_of 34 body) (λ n. Ok (Count n))) (Err BadCode) → frame k c ≡ code ∷ body
-      five e =
-          ⊎_elim (λ h. let n = accepted_then (number_of 34 body) _ c h.1 in coded code 34 body _ c (Count n.0) h.0 (ok_same c (Count n.0) n.2) refl (number_exact 34 n.0 body u.1 n.1))
-          (λ h. never c BadCode h) (accepted_cond (eqb code 34) _ (Err BadCode) c e)
-
-      four : Ok c ≡ cond (eqb code 33) (and_then (question_of k.time 33 body) (λ q. Ok (Latest q.0 q.1))) (cond (eqb code 34) (and_then (number_of 34 body) (λ n. Ok (Count n))) (Err BadCode)) → frame k c ≡ code ∷ body
-      four e =
-          ⊎_elim (λ h. let q = accepted_then (question_of k.time 33 body) _ c h.1 in coded code 33 body _ c (Latest q.0.0 q.0.1) h.0 (ok_same c (Latest q.0.0 q.0.1) q.2) refl (question_exact 33 q.0 body u.1 q.1))
-          five (accepted_cond (eqb code 33) _ _ c e)
-
-      three : Ok c ≡ cond (eqb code 32) (and_then (question_of k.time 32 body) (λ q. Ok (State q.0 q.1))) (cond (eqb code 33) (and_then (question_of k.time 33 body) (λ q. Ok (Latest q.0 q.1))) (cond (eqb code 34) (and_then (number_of 34 body) (λ n. Ok (Count n))) (Err BadCode))) → frame k c ≡ code ∷ body
-      three e =
-          ⊎_elim (λ h. let q = accepted_then (question_of k.time 32 body) _ c h.1 in coded code 32 body _ c (State q.0.0 q.0.1) h.0 (ok_same c (State q.0.0 q.0.1) q.2) refl (question_exact 32 q.0 body u.1 q.1))
-          four (accepted_cond (eqb code 32) _ _ c e)
-
-      two : Ok c ≡ cond (eqb code 17) (and_then (number_of 17 body) (λ n. Ok (Withdraw n))) (cond (eqb code 32) (and_then (question_of k.time 32 body) (λ q. Ok (State q.0 q.1))) (cond (eqb code 33) (and_then (question_of k.time 33 body) (λ q. Ok (Latest q.0 q.1))) (cond (eqb code 34) (and_then (number_of 34 body) (λ n. Ok (Count n))) (Err BadCode)))) → frame k c ≡ code ∷ body
-      two e =
-          ⊎_elim (λ h. let n = accepted_then (number_of 17 body) _ c h.1 in coded code 17 body _ c (Withdraw n.0) h.0 (ok_same c (Withdraw n.0) n.2) refl (number_exact 17 n.0 body u.1 n.1))
-          three (accepted_cond (eqb code 17) _ _ c e)
-
-      one : Ok c ≡ command_of k true code body → frame k c ≡ code ∷ body
-      one e =
-          ⊎_elim (λ h. let f = accepted_then (entry_of k body) _ c h.1 in coded code 16 body _ c (Enter f.0.0 f.0.1) h.0 (ok_same c (Enter f.0.0 f.0.1) f.2) refl (entry_exact f.0 body u.1 f.1))
-          two (accepted_cond (eqb code 16) _ _ c e)
+  command_exact opened (b ∷ body) c u e =
+      let read = accepted_then (ok_or (code_of b) BadCode) (λ code. command_of k opened code body) c e in
+      coded_exact opened read.0 body c u.1 read.2 ∙ ap (λ x. x ∷ body) (code_exact b read.0 (accepted_or (code_of b) BadCode read.0 read.1))

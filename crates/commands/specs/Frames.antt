@@ -1,5 +1,5 @@
 -- The bytes of each command, and the command that bytes are, or why they are none.
-use Rattle.std.specs.Prelude.{ℕ, ◌+◌, ◌*◌, ◌^◌, ◌<◌, Bool, true, false, cond, List, [], ◌∷◌, ◌++◌, length, take, drop, Some, None, Ok, Err, Option, Result, ◌==◌, slice_index}
+use Rattle.std.specs.Prelude.{ℕ, ◌+◌, ◌*◌, ◌^◌, ◌<◌, Bool, true, false, cond, List, [], ◌∷◌, ◌++◌, length, take, drop, Ok, Err, Option, Result, ◌==◌, slice_index}
 use Rattle.std.specs.Option.{ok_or}
 use Rattle.big_endian.specs.Numbers.{bytes_of, worth}
 use Rattle.text.specs.declared.flaw.Flaw.{Flaw}
@@ -7,13 +7,12 @@ use Rattle.text.specs.declared.flaw.Flaw.TheVariants.{BadCode, WrongLength, NoTi
 use Rattle.digits.specs.Hex.{decoded, encoded}
 use Rattle.times.specs.declared.Time as time
 use Rattle.payloads.specs.declared.payload.Payload as payload
-use Rattle.commands.specs.declared.command.EffectKind.{EffectKind}
-use Rattle.commands.specs.declared.command.EffectKind.TheVariants.{Counter, Settings, Status}
-use Rattle.commands.specs.declared.command.TimeKind.{TimeKind}
-use Rattle.commands.specs.declared.command.TimeKind.TheVariants.{Clock, Place}
 use Rattle.commands.specs.declared.command.Opening.{Opening}
 use Rattle.commands.specs.declared.command.Command.{Command}
 use Rattle.commands.specs.declared.command.Command.TheVariants.{Open, Enter, Withdraw, State, Latest, Count}
+use Rattle.commands.specs.declared.command.Code.{Code}
+use Rattle.commands.specs.declared.command.Code.TheVariants as codes
+use Rattle.commands.specs.Codes.{effect_code, effect_kind, time_code, time_kind, code_of}
 
 -- What frames need of a kind of payload P and a kind of time T.
 pub record Forms (P T : Type 0) : Type 0 where
@@ -55,26 +54,11 @@ place_of at = 2 * at
 abbrev pub of_length : ℕ → ℕ → List ℕ → Result (Unit {0}) Flaw
 of_length code n body = cond (length body == n) (Ok tt) (Err (WrongLength code (2 * (length body + 1))))
 
-abbrev pub effect_code : EffectKind → ℕ
-effect_code Counter = 0x01
-effect_code Settings = 0x02
-effect_code Status = 0x03
-
-abbrev pub effect_kind : ℕ → Option EffectKind
-effect_kind b = cond (b == 0x01) (Some Counter) (cond (b == 0x02) (Some Settings) (cond (b == 0x03) (Some Status) None))
-
-abbrev pub time_code : TimeKind → ℕ
-time_code Clock = 0x01
-time_code Place = 0x02
-
-abbrev pub time_kind : ℕ → Option TimeKind
-time_kind b = cond (b == 0x01) (Some Clock) (cond (b == 0x02) (Some Place) None)
-
 -- the opening that a body of 4 bytes asks for
-abbrev pub opening_of : List ℕ → Result Opening Flaw
-opening_of body =
-    and_then (of_length 0x01 4 body) (λ _. and_then (ok_or (effect_kind (slice_index body 0)) (OutOfRange 0x01 (place_of effects_at))) (λ e.
-    and_then (ok_or (time_kind (slice_index body 1)) (OutOfRange 0x01 (place_of times_at))) (λ t. Ok (record { effects = e; times = t; quota = worth (drop 2 body) }))))
+abbrev pub opening_of : ℕ → List ℕ → Result Opening Flaw
+opening_of code body =
+    and_then (of_length code 4 body) (λ _. and_then (ok_or (effect_kind (slice_index body 0)) (OutOfRange code (place_of effects_at))) (λ e.
+    and_then (ok_or (time_kind (slice_index body 1)) (OutOfRange code (place_of times_at))) (λ t. Ok (record { effects = e; times = t; quota = worth (drop 2 body) }))))
 
 -- the number that a body of 2 bytes is
 abbrev pub number_of : ℕ → List ℕ → Result ℕ Flaw
@@ -100,24 +84,24 @@ module _ {P T : Type 0} (k : Forms P T) where
   written c = encoded (frame c)
 
   -- the time and the payload of an entry
-  abbrev pub entry_of : List ℕ → Result (T × P) Flaw
-  entry_of body =
-      and_then (of_length 0x10 (8 + k.size (drop 8 body)) body) (λ _. and_then (ok_or (k.time (worth (take 8 body))) (NoTime 0x10 (place_of entry_time_at))) (λ t.
-      and_then (ok_or (k.parsed (drop 8 body)) (OutOfRange 0x10 (place_of payload_at))) (λ p. Ok (t, p))))
+  abbrev pub entry_of : ℕ → List ℕ → Result (T × P) Flaw
+  entry_of code body =
+      and_then (of_length code (8 + k.size (drop 8 body)) body) (λ _. and_then (ok_or (k.time (worth (take 8 body))) (NoTime code (place_of entry_time_at))) (λ t.
+      and_then (ok_or (k.parsed (drop 8 body)) (OutOfRange code (place_of payload_at))) (λ p. Ok (t, p))))
 
   -- the command of a code and a body, where the record is open or not: only an opening may come before it is open, and none after
-  abbrev pub command_of : Bool → ℕ → List ℕ → Result (Command P T) Flaw
-  command_of false code body = cond (code == 0x01) (and_then (opening_of body) (λ o. Ok (Open o))) (Err BadCode)
-  command_of true code body =
-      cond (code == 0x10) (and_then (entry_of body) (λ e. Ok (Enter e.0 e.1)))
-      (cond (code == 0x11) (and_then (number_of 0x11 body) (λ n. Ok (Withdraw n)))
-      (cond (code == 0x20) (and_then (question_of k.time 0x20 body) (λ q. Ok (State q.0 q.1)))
-      (cond (code == 0x21) (and_then (question_of k.time 0x21 body) (λ q. Ok (Latest q.0 q.1)))
-      (cond (code == 0x22) (and_then (number_of 0x22 body) (λ n. Ok (Count n))) (Err BadCode)))))
+  abbrev pub command_of : Bool → Code → List ℕ → Result (Command P T) Flaw
+  command_of false codes.Open body = and_then (opening_of 0x01 body) (λ o. Ok (Open o))
+  command_of true codes.Enter body = and_then (entry_of 0x10 body) (λ e. Ok (Enter e.0 e.1))
+  command_of true codes.Withdraw body = and_then (number_of 0x11 body) (λ n. Ok (Withdraw n))
+  command_of true codes.State body = and_then (question_of k.time 0x20 body) (λ q. Ok (State q.0 q.1))
+  command_of true codes.Latest body = and_then (question_of k.time 0x21 body) (λ q. Ok (Latest q.0 q.1))
+  command_of true codes.Count body = and_then (number_of 0x22 body) (λ n. Ok (Count n))
+  command_of _ _ body = Err BadCode
 
   abbrev pub command_in : Bool → List ℕ → Result (Command P T) Flaw
   command_in opened [] = Err BadCode
-  command_in opened (code ∷ body) = command_of opened code body
+  command_in opened (b ∷ body) = and_then (ok_or (code_of b) BadCode) (λ code. command_of opened code body)
 
   -- the command that a line asks for, or why it asks for none
   abbrev pub command : Bool → List ℕ → Result (Command P T) Flaw

@@ -1,19 +1,34 @@
 // What a line asks for.
 
-// The kinds of effect that a record can be opened with.
+// The kinds of effect that a record can be opened with, by their codes.
 #[derive(Clone, Copy)]
 pub enum EffectKind {
-    Counter,
-    Settings,
-    Status,
+    Counter = 0x01,
+    Settings = 0x02,
+    Status = 0x03,
 }
 
-// The kinds of time that a record can be opened with.
+// The kinds of time that a record can be opened with, by their codes.
 #[derive(Clone, Copy)]
 pub enum TimeKind {
-    Clock,
-    Place,
+    Clock = 0x01,
+    Place = 0x02,
 }
+
+// The commands by their codes, the first bytes of their frames.
+#[derive(Clone, Copy)]
+pub enum Code {
+    Open = 0x01,
+    Enter = 0x10,
+    Withdraw = 0x11,
+    State = 0x20,
+    Latest = 0x21,
+    Count = 0x22,
+}
+
+// A byte that is the code of nothing of the type that was wanted.
+#[derive(Clone, Copy)]
+pub struct UnknownCode(pub u8);
 
 // The kinds of a record, and how many cells it may put.
 #[derive(Clone, Copy)]

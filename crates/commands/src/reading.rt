@@ -1,13 +1,15 @@
 // Reading a command from a line.
 ghost use Rattle.std.specs.Prelude.{◌≡◌, ◌+◌, ◌*◌, ◌<◌, ◌≤◌, length, Ok, Err};
 ghost use Rattle.text.specs.declared.flaw.Flaw.{Flaw};
-ghost use Rattle.text.specs.declared.flaw.Flaw.TheVariants.{WrongLength};
+ghost use Rattle.text.specs.declared.flaw.Flaw.TheVariants.{WrongLength, NoTime, OutOfRange};
 ghost use Rattle.text.specs.Flaws.{number_and_place};
 ghost use Rattle.commands.specs.declared.command.Command.{Command};
-ghost use Rattle.commands.specs.Frames.{forms, effect_kind, time_kind, opening_of, number_of, entry_of, question_of, command_in, command, written};
+ghost use Rattle.commands.specs.Codes.{code_byte};
+ghost use Rattle.commands.specs.Frames.{forms, place_of, opening_of, number_of, entry_of, question_of, command_of, command_in, command, written};
 
-use crate::command::{Command, EffectKind, Opening, TimeKind};
-use big_endian::{split_u16, split_u64};
+use crate::command::{Code, Command, EffectKind, Opening, TimeKind};
+use crate::frame::Frame;
+use big_endian::split;
 use digits::decode;
 use payloads::Payload;
 use text::Flaw;
@@ -24,162 +26,130 @@ const PAYLOAD_AT: usize = ENTRY_TIME_AT + 8;
 
 const QUESTION_TIME_AT: usize = 3;
 
-// The refusal of a body that has not the length that its code wants: the place is the length of the line.
-fn wrong_length(code: u8, body: &[u8]) -> Flaw
-    requires { length body.now < 32 }
-    ensures { result ≡ WrongLength code (2 * (length body.now + 1)) }
-{
-    Flaw::WrongLength {
-        code,
-        length: 2 * (body.len() + 1),
+impl Frame<'_> {
+    // The refusal of a body that has not the length that its code wants: the place is the length of the line.
+    fn wrong_length(&self) -> Flaw
+        ensures { result ≡ WrongLength (code_byte self.now.code) (2 * (length self.now.body.now + 1)) }
+    {
+        Flaw::WrongLength {
+            code: self.code as u8,
+            length: 2 * (self.body.len() + 1),
+        }
     }
-}
 
-fn effect_kind(code: u8) -> Option<EffectKind>
-    ensures { result ≡ effect_kind code }
-{
-    match code {
-        0x01 => Some(EffectKind::Counter),
-        0x02 => Some(EffectKind::Settings),
-        0x03 => Some(EffectKind::Status),
-        _ => None,
+    // The refusal of a byte that is out of its range, where it stands in the frame.
+    fn out_of_range(&self, at: usize) -> Flaw
+        requires { at < 32 }
+        ensures { result ≡ OutOfRange (code_byte self.now.code) (place_of at) }
+    {
+        Flaw::OutOfRange {
+            code: self.code as u8,
+            place: 2 * at,
+        }
     }
-}
 
-fn time_kind(code: u8) -> Option<TimeKind>
-    ensures { result ≡ time_kind code }
-{
-    match code {
-        0x01 => Some(TimeKind::Clock),
-        0x02 => Some(TimeKind::Place),
-        _ => None,
+    // The refusal of a time that is none of the record's, where it stands in the frame.
+    fn no_time(&self, at: usize) -> Flaw
+        requires { at < 32 }
+        ensures { result ≡ NoTime (code_byte self.now.code) (place_of at) }
+    {
+        Flaw::NoTime {
+            code: self.code as u8,
+            place: 2 * at,
+        }
     }
-}
 
-// The opening that a body asks for.
-fn read_opening(body: &[u8]) -> Result<Opening, Flaw>
-    requires { length body.now < 32 }
-    ensures { result ≡ opening_of body.now }
-{
-    let [effects, times, high, low] = body else {
-        return Err(wrong_length(0x01, body));
-    };
-    let Some(effects) = effect_kind(*effects) else {
-        return Err(Flaw::OutOfRange {
-            code: 0x01,
-            place: 2 * EFFECTS_AT,
-        });
-    };
-    let Some(times) = time_kind(*times) else {
-        return Err(Flaw::OutOfRange {
-            code: 0x01,
-            place: 2 * TIMES_AT,
-        });
-    };
-    Ok(Opening {
-        effects,
-        times,
-        quota: u16::from_be_bytes([*high, *low]),
-    })
-}
-
-// The number that is the whole of a body.
-fn read_number(code: u8, body: &[u8]) -> Result<u16, Flaw>
-    requires { length body.now < 32 }
-    ensures { result ≡ number_of code body.now }
-{
-    match split_u16(body) {
-        Some((number, [])) => Ok(number),
-        _ => Err(wrong_length(code, body)),
+    // The opening that a body asks for.
+    #[tactic(auto, using(crate::proofs::Exits::opening_read))]
+    fn opening(&self) -> Result<Opening, Flaw>
+        ensures { result ≡ opening_of (code_byte self.now.code) self.now.body.now }
+    {
+        let [effects, times, high, low] = self.body else {
+            return Err(self.wrong_length());
+        };
+        let effects = EffectKind::try_from(*effects).or(Err(self.out_of_range(EFFECTS_AT)))?;
+        let times = TimeKind::try_from(*times).or(Err(self.out_of_range(TIMES_AT)))?;
+        Ok(Opening {
+            effects,
+            times,
+            quota: u16::from_be_bytes([*high, *low]),
+        })
     }
-}
 
-// The belief and the time of a question.
-fn read_question<T: Time>(code: u8, body: &[u8]) -> Result<(u16, T), Flaw>
-    requires { length body.now < 32 }
-    ensures { result ≡ question_of T.Time.reads code body.now }
-{
-    let Some((belief, rest)) = split_u16(body) else {
-        return Err(wrong_length(code, body));
-    };
-    let Some((word, [])) = split_u64(rest) else {
-        return Err(wrong_length(code, body));
-    };
-    match T::from_word(word) {
-        Some(time) => Ok((belief, time)),
-        None => Err(Flaw::NoTime {
-            code,
-            place: 2 * QUESTION_TIME_AT,
-        }),
+    // The number that is the whole of a body.
+    fn number(&self) -> Result<u16, Flaw>
+        ensures { result ≡ number_of (code_byte self.now.code) self.now.body.now }
+    {
+        match split::<u16, 2>(self.body) {
+            Some((number, [])) => Ok(number),
+            _ => Err(self.wrong_length()),
+        }
     }
-}
 
-// The time and the payload of an entry.
-fn read_entry<E: Payload, T: Time>(body: &[u8]) -> Result<(T, E::Form), Flaw>
-    requires { length body.now < 32 }
-    ensures { result ≡ entry_of (forms E.Payload.own T.Time) body.now }
-{
-    let Some((word, rest)) = split_u64(body) else {
-        return Err(wrong_length(0x10, body));
-    };
-    if rest.len() != E::size_of(rest) {
-        return Err(wrong_length(0x10, body));
+    // The belief and the time of a question.
+    fn question<T: Time>(&self) -> Result<(u16, T), Flaw>
+        ensures { result ≡ question_of T.Time.reads (code_byte self.now.code) self.now.body.now }
+    {
+        let (belief, rest) = split::<u16, 2>(self.body).ok_or(self.wrong_length())?;
+        let Some((word, [])) = split::<u64, 8>(rest) else {
+            return Err(self.wrong_length());
+        };
+        let time = T::from_word(word).ok_or(self.no_time(QUESTION_TIME_AT))?;
+        Ok((belief, time))
     }
-    let Some(time) = T::from_word(word) else {
-        return Err(Flaw::NoTime {
-            code: 0x10,
-            place: 2 * ENTRY_TIME_AT,
-        });
-    };
-    match E::parse(rest) {
-        Some(payload) => Ok((time, payload)),
-        None => Err(Flaw::OutOfRange {
-            code: 0x10,
-            place: 2 * PAYLOAD_AT,
-        }),
+
+    // The time and the payload of an entry.
+    fn entry<E: Payload, T: Time>(&self) -> Result<(T, E::Form), Flaw>
+        ensures { result ≡ entry_of (forms E.Payload.own T.Time) (code_byte self.now.code) self.now.body.now }
+    {
+        let (word, rest) = split::<u64, 8>(self.body).ok_or(self.wrong_length())?;
+        if rest.len() != E::size_of(rest) {
+            return Err(self.wrong_length());
+        }
+        let time = T::from_word(word).ok_or(self.no_time(ENTRY_TIME_AT))?;
+        let payload = E::parse(rest).ok_or(self.out_of_range(PAYLOAD_AT))?;
+        Ok((time, payload))
+    }
+
+    // The command of a frame, where the record is opened or not.
+    fn command<E: Payload, T: Time>(&self, opened: bool) -> Result<Command<E::Form, T>, Flaw>
+        ensures { result ≡ command_of (forms E.Payload.own T.Time) opened self.now.code self.now.body.now }
+    {
+        match (opened, self.code) {
+            (false, Code::Open) => Ok(Command::Open {
+                opening: self.opening()?,
+            }),
+            (true, Code::Enter) => {
+                let (time, payload) = self.entry::<E, T>()?;
+                Ok(Command::Enter { time, payload })
+            }
+            (true, Code::Withdraw) => Ok(Command::Withdraw {
+                operation: self.number()?,
+            }),
+            (true, Code::State) => {
+                let (belief, time) = self.question::<T>()?;
+                Ok(Command::State { belief, time })
+            }
+            (true, Code::Latest) => {
+                let (belief, time) = self.question::<T>()?;
+                Ok(Command::Latest { belief, time })
+            }
+            (true, Code::Count) => Ok(Command::Count {
+                belief: self.number()?,
+            }),
+            _ => Err(Flaw::BadCode),
+        }
     }
 }
 
 // The command whose bytes a frame has, where the record is opened or not.
-fn command_in<E: Payload, T: Time>(frame: &[u8], opened: bool) -> Result<Command<E::Form, T>, Flaw>
-    requires { length frame.now ≤ 32 }
-    ensures { result ≡ command_in (forms E.Payload.own T.Time) opened frame.now }
+fn command_in<E: Payload, T: Time>(bytes: &[u8], opened: bool) -> Result<Command<E::Form, T>, Flaw>
+    requires { length bytes.now ≤ 32 }
+    ensures { result ≡ command_in (forms E.Payload.own T.Time) opened bytes.now }
 {
-    let Some((code, body)) = frame.split_first() else {
-        return Err(Flaw::BadCode);
-    };
-    if !opened {
-        return match *code {
-            0x01 => {
-                let opening = read_opening(body)?;
-                Ok(Command::Open { opening })
-            }
-            _ => Err(Flaw::BadCode),
-        };
-    }
-    match *code {
-        0x10 => {
-            let (time, payload) = read_entry::<E, T>(body)?;
-            Ok(Command::Enter { time, payload })
-        }
-        0x11 => {
-            let operation = read_number(0x11, body)?;
-            Ok(Command::Withdraw { operation })
-        }
-        0x20 => {
-            let (belief, time) = read_question::<T>(0x20, body)?;
-            Ok(Command::State { belief, time })
-        }
-        0x21 => {
-            let (belief, time) = read_question::<T>(0x21, body)?;
-            Ok(Command::Latest { belief, time })
-        }
-        0x22 => {
-            let belief = read_number(0x22, body)?;
-            Ok(Command::Count { belief })
-        }
-        _ => Err(Flaw::BadCode),
-    }
+    let (code, body) = bytes.split_first().ok_or(Flaw::BadCode)?;
+    let code = Code::try_from(*code).or(Err(Flaw::BadCode))?;
+    Frame { code, body }.command::<E, T>(opened)
 }
 
 // The command that a line asks for, where the record is opened or not.

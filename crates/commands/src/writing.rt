@@ -1,43 +1,23 @@
 // Writing a command as a line.
 ghost use Rattle.std.specs.Prelude.{◌≡◌, ◌+◌, ◌≤◌, [], ◌∷◌, ◌++◌, length, Ok};
 ghost use Rattle.big_endian.specs.Numbers.{bytes_of};
-ghost use Rattle.digits.specs.Held.{contents, line_digits};
 ghost use Rattle.commands.specs.declared.command.Command.TheVariants.{Enter};
-ghost use Rattle.commands.specs.Frames.{forms, effect_code, time_code, frame, written, command, wants_open, Narrow};
+ghost use Rattle.commands.specs.Codes.{code_byte};
+ghost use Rattle.commands.specs.Frames.{forms, frame, written, command, wants_open, Narrow};
 
-use crate::command::{Command, EffectKind, TimeKind};
-use big_endian::{u16_bytes, u64_bytes};
+use crate::command::{Code, Command};
+use big_endian::BigEndian;
 use digits::{Bytes, Line};
 use payloads::Payload;
 use times::Time;
 
-fn effect_code(kind: EffectKind) -> u8
-    ensures { result ≡ effect_code kind }
-{
-    match kind {
-        EffectKind::Counter => 0x01,
-        EffectKind::Settings => 0x02,
-        EffectKind::Status => 0x03,
-    }
-}
-
-fn time_code(kind: TimeKind) -> u8
-    ensures { result ≡ time_code kind }
-{
-    match kind {
-        TimeKind::Clock => 0x01,
-        TimeKind::Place => 0x02,
-    }
-}
-
 // A code and the two parts of its body.
-fn framed(code: u8, head: &[u8], tail: &[u8]) -> Bytes
+fn framed(code: Code, head: &[u8], tail: &[u8]) -> Bytes
     requires { length head.now + length tail.now ≤ 31 }
-    ensures items { contents result ≡ code ∷ (head.now ++ tail.now) }
-    ensures len { result.len ≡ 1 + length head.now + length tail.now }
+    ensures { result ≡ code_byte code ∷ (head.now ++ tail.now) }
 {
     let mut frame = Bytes::new();
-    frame.push(code);
+    frame.push(code as u8);
     frame.append(head);
     frame.append(tail);
     frame
@@ -45,42 +25,42 @@ fn framed(code: u8, head: &[u8], tail: &[u8]) -> Bytes
 
 // The bytes of an entry.
 fn entry_bytes<E: Payload, T: Time>(time: T, payload: E::Form) -> Bytes
-    ensures { contents result ≡ frame (forms E.Payload.own T.Time) (Enter time payload) }
+    ensures { result ≡ frame (forms E.Payload.own T.Time) (Enter time payload) }
 {
-    let mut frame = framed(0x10, &u64_bytes(time.to_word()), &[]);
+    let mut frame = framed(Code::Enter, &time.to_word().to_bytes(), &[]);
     E::append(payload, &mut frame);
     frame
 }
 
 // The bytes of a question.
-fn question_bytes<T: Time>(code: u8, belief: u16, time: T) -> Bytes
-    ensures { contents result ≡ code ∷ (bytes_of 2 belief ++ bytes_of 8 (T.Time.word time)) }
+fn question_bytes<T: Time>(code: Code, belief: u16, time: T) -> Bytes
+    ensures { result ≡ code_byte code ∷ (bytes_of 2 belief ++ bytes_of 8 (T.Time.word time)) }
 {
-    framed(code, &u16_bytes(belief), &u64_bytes(time.to_word()))
+    framed(code, &belief.to_bytes(), &time.to_word().to_bytes())
 }
 
 // The bytes of a command.
 fn frame_of<E: Payload, T: Time>(asked: Command<E::Form, T>) -> Bytes
-    ensures bytes { contents result ≡ frame (forms E.Payload.own T.Time) asked }
+    ensures bytes { result ≡ frame (forms E.Payload.own T.Time) asked }
     ensures narrow { Narrow asked }
 {
     match asked {
         Command::Open { opening } => {
-            let kinds = [effect_code(opening.effects), time_code(opening.times)];
-            framed(0x01, &kinds, &u16_bytes(opening.quota))
+            let kinds = [opening.effects as u8, opening.times as u8];
+            framed(Code::Open, &kinds, &opening.quota.to_bytes())
         }
         Command::Enter { time, payload } => entry_bytes::<E, T>(time, payload),
-        Command::Withdraw { operation } => framed(0x11, &u16_bytes(operation), &[]),
-        Command::State { belief, time } => question_bytes(0x20, belief, time),
-        Command::Latest { belief, time } => question_bytes(0x21, belief, time),
-        Command::Count { belief } => framed(0x22, &u16_bytes(belief), &[]),
+        Command::Withdraw { operation } => framed(Code::Withdraw, &operation.to_bytes(), &[]),
+        Command::State { belief, time } => question_bytes(Code::State, belief, time),
+        Command::Latest { belief, time } => question_bytes(Code::Latest, belief, time),
+        Command::Count { belief } => framed(Code::Count, &belief.to_bytes(), &[]),
     }
 }
 
 // A command as a line, which is read as the command again.
 pub fn write<E: Payload, T: Time>(asked: Command<E::Form, T>) -> Line
-    ensures digits { line_digits result ≡ written (forms E.Payload.own T.Time) asked }
-    ensures back { command (forms E.Payload.own T.Time) (wants_open asked) (line_digits result) ≡ Ok asked }
+    ensures digits { result ≡ written (forms E.Payload.own T.Time) asked }
+    ensures back { command (forms E.Payload.own T.Time) (wants_open asked) (result) ≡ Ok asked }
 {
     frame_of::<E, T>(asked).to_line()
 }

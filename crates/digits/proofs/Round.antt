@@ -1,15 +1,20 @@
 -- Bytes written as digits read back as the bytes, and digits that are read are written again as they were.
-use Rattle.std.proofs.Common.{◌≡◌, ℕ, zero, suc, ◌+◌, ◌*◌, ◌/◌, ◌%◌, ◌<◌, ◌≤◌, cond, eqb, List, [], ◌∷◌, length, get_or, take, is_some, Some, None, Ok, Err, Option, Result, unwrap_or, sym, refl, ap, ◌∙◌, subst, arith, w8, Fits}
+use Rattle.std.proofs.Common.{◌≡◌, ℕ, ◌+◌, ◌*◌, ◌/◌, ◌%◌, ◌<◌, ◌≤◌, cond, eqb, List, [], ◌∷◌, length, get_or, is_none, Some, None, Ok, Err, Option, Result, unwrap_or, sym, refl, ap, ◌∙◌, subst, arith, w8, Fits}
+use Rattle.std.specs.List.{position_from}
 use Rattle.std.specs.Int.Digits.{AllBelowBase}
 use Rattle.std.specs.Result.{result_and}
+use Rattle.std.proofs.ByRecursion.{All-from_get_or}
+use Rattle.std.proofs.lemmas.Iterator.Adapters.{position_from-zero}
 use Rattle.std.proofs.lemmas.Bool.Decides.{nat_tests}
 use Rattle.std.proofs.lemmas.Bool.{cond-true, cond-false, le-ltb, eq-eqb}
 use Rattle.text.specs.declared.flaw.Flaw.{Flaw}
 use Rattle.text.specs.declared.flaw.Flaw.TheVariants.{OddLength}
-use Rattle.digits.specs.declared.line.Bytes.{Bytes}
-use Rattle.digits.specs.Held.{contents}
-use Rattle.digits.specs.Hex.{digit, value, no_digit, refused_at, checked, paired, decoded, digit_of, encoded}
+use Rattle.digits.specs.Hex.{digit, value, refused_at, checked, paired, decoded, digit_of, encoded}
 use Rattle.digits.proofs.Decoding.{passed}
+
+-- the first character that is no digit, if the first of all stands at i
+abbrev no_digit_from : ℕ → List ℕ → Option ℕ
+no_digit_from i cs = position_from (λ c. is_none (digit c)) i cs
 
 digit_digit : (v : ℕ) → v < 16 → digit (digit_of v) ≡ Some v
 digit_digit v h = grind (arith, nat_tests)
@@ -40,12 +45,12 @@ paired_encoded (b ∷ bs) u =
 pub encoded_apart : (xs ys : List ℕ) → AllBelowBase 256 xs → AllBelowBase 256 ys → encoded xs ≡ encoded ys → xs ≡ ys
 encoded_apart xs ys u v e = sym (paired_encoded xs u) ∙ ap paired e ∙ paired_encoded ys v
 
-all_digits : (i : ℕ) (bs : List ℕ) → AllBelowBase 256 bs → no_digit i (encoded bs) ≡ None
+all_digits : (i : ℕ) (bs : List ℕ) → AllBelowBase 256 bs → no_digit_from i (encoded bs) ≡ None
 all_digits i [] u = refl
 all_digits i (b ∷ bs) u =
     let below = u.0 in
-    cond-true _ _ _ (ap is_some (digit_digit (b / 16) (omega arith)))
-    ∙ cond-true _ _ _ (ap is_some (digit_digit (b % 16) (omega arith)))
+    cond-false _ _ _ (ap is_none (digit_digit (b / 16) (omega arith)))
+    ∙ cond-false _ _ _ (ap is_none (digit_digit (b % 16) (omega arith)))
     ∙ all_digits (i + 1 + 1) bs u.1
 
 -- bytes written as digits read back as the bytes
@@ -54,12 +59,12 @@ read_written bs u short =
     let long = length_encoded bs in
     let even : checked (encoded bs) ≡ Ok tt =
     cond-false _ _ _ (le-ltb 64 (length (encoded bs)) (omega arith))
-    ∙ ap (λ o. result_and (refused_at o) (cond (eqb (length (encoded bs) % 2) 0) (Ok tt) (Err (OddLength (length (encoded bs)))))) (all_digits 0 bs u)
+    ∙ ap (λ o. result_and (refused_at o) (cond (eqb (length (encoded bs) % 2) 0) (Ok tt) (Err (OddLength (length (encoded bs)))))) (position_from-zero _ (encoded bs) ∙ all_digits 0 bs u)
     ∙ cond-true _ _ _ (eq-eqb (length (encoded bs) % 2) 0 (omega arith)) in
     ap (λ r. result_and r (Ok (paired (encoded bs)))) even ∙ ap Ok (paired_encoded bs u)
 
 -- a first character that is a digit
-first_digit : (c : ℕ) (later : Option ℕ) (i : ℕ) (o : Option ℕ) → digit c ≡ o → cond (is_some o) later (Some i) ≡ None → (v : ℕ) × (digit c ≡ Some v) × (later ≡ None)
+first_digit : (c : ℕ) (later : Option ℕ) (i : ℕ) (o : Option ℕ) → digit c ≡ o → cond (is_none o) (Some i) later ≡ None → (v : ℕ) × (digit c ≡ Some v) × (later ≡ None)
 first_digit c later i None is e = let z : ◌≡◌ {A = ℕ} 0 1 = cc in absurd (omega arith)
 first_digit c later i (Some v) is e = (v, is, e)
 
@@ -74,7 +79,7 @@ pair_back c d v w first second =
     let remainder : (value c * 16 + value d) % 16 ≡ w = omega arith in
     (ap digit_of quotient ∙ digit_is c v first, ap digit_of remainder ∙ digit_is d w second)
 
-encoded_paired : (i : ℕ) (cs : List ℕ) → no_digit i cs ≡ None → length cs % 2 ≡ 0 → encoded (paired cs) ≡ cs
+encoded_paired : (i : ℕ) (cs : List ℕ) → no_digit_from i cs ≡ None → length cs % 2 ≡ 0 → encoded (paired cs) ≡ cs
 encoded_paired i [] e even = refl
 encoded_paired i (c ∷ []) e even = absurd (omega arith)
 encoded_paired i (c ∷ d ∷ cs) e even =
@@ -92,7 +97,7 @@ ok_both (Err f) bs bs' e = let z : ◌≡◌ {A = ℕ} 0 1 = cc in absurd (omega
 pub written_read : (cs bs : List ℕ) → Ok bs ≡ decoded cs → encoded bs ≡ cs
 written_read cs bs e =
     let both = ok_both (checked cs) (paired cs) bs e in
-    let p = passed cs both.0 in subst (λ l. encoded l ≡ cs) both.1 (encoded_paired 0 cs p.digits p.even)
+    let p = passed cs both.0 in subst (λ l. encoded l ≡ cs) both.1 (encoded_paired 0 cs (sym (position_from-zero _ cs) ∙ p.digits) p.even)
 
 value_below : (c : ℕ) → value c < 16
 value_below c = grind (arith, nat_tests)
@@ -106,10 +111,6 @@ under_paired (c ∷ d ∷ cs) = let high = value_below c in let low = value_belo
 pub under_read : (cs bs : List ℕ) → Ok bs ≡ decoded cs → AllBelowBase 256 bs
 under_read cs bs e = subst (AllBelowBase 256) (ok_both (checked cs) (paired cs) bs e).1 (under_paired cs)
 
--- so are those that bytes hold
-pub written_again : (cs : List ℕ) (mine b : Bytes) → ◌≡◌ {A = Result Bytes Flaw} (Ok mine) (Ok b) → Ok (contents mine) ≡ decoded cs → encoded (contents b) ≡ cs
-written_again cs mine b same e = let is : mine ≡ b = cc in subst (λ x. encoded (contents x) ≡ cs) is (written_read cs (contents mine) e)
-
 -- a line that is read has at most 64 characters
 pub accepted_short : (cs bs : List ℕ) → Ok bs ≡ decoded cs → length cs ≤ 64
 accepted_short cs bs e = (passed cs (ok_both (checked cs) (paired cs) bs e).0).short
@@ -119,11 +120,5 @@ pub half_read : (cs bs : List ℕ) → Ok bs ≡ decoded cs → length cs ≡ 2 
 half_read cs bs e = sym (ap length (written_read cs bs e)) ∙ length_encoded bs
 
 -- typed bytes are below 256
-pub under_take : (k : ℕ) (bs : List ℕ) → AllBelowBase 256 bs → AllBelowBase 256 (take k bs)
-under_take zero bs u = tt
-under_take (suc k) [] u = tt
-under_take (suc k) (b ∷ bs) u = (u.0, under_take k bs u.1)
-
 pub under_typed : (bs : List ℕ) → ((i : ℕ) → Fits w8 (get_or bs i 0)) → AllBelowBase 256 bs
-under_typed [] h = tt
-under_typed (b ∷ bs) h = let first = h 0 in (omega arith, under_typed bs (λ i. h (suc i)))
+under_typed bs h = All-from_get_or (λ b. b < 256) bs 0 (λ i _. let fits = h i in omega arith)

@@ -1,11 +1,6 @@
--- What is held in arrays of a fixed size.
-use Rattle.std.specs.Prelude.{ℕ, List, take}
-use Rattle.digits.specs.declared.line.Bytes.{Bytes}
-use Rattle.digits.specs.declared.line.Line.{Line}
+-- The text of a line: its digits and a newline.
+use Rattle.std.specs.Prelude.{ℕ, ◌-◌, List, length, take}
 
-abbrev pub contents : Bytes → List ℕ
-contents b = take b.len b.bytes
-
--- the digits of a line, without its newline
-abbrev pub line_digits : Line → List ℕ
-line_digits l = take l.len l.text
+-- all of a text but its last character
+abbrev pub without_last : List ℕ → List ℕ
+without_last text = take (length text - 1) text

@@ -1,5 +1,6 @@
 -- Bytes as digits, two to a byte, and why characters are no bytes.
-use Rattle.std.specs.Prelude.{ℕ, ◌+◌, ◌-◌, ◌*◌, ◌/◌, ◌%◌, cond, ◌&&◌, List, [], ◌∷◌, length, is_some, Some, None, Ok, Err, Option, Result, ◌==◌, nat_le, nat_lt}
+use Rattle.std.specs.Prelude.{ℕ, ◌+◌, ◌-◌, ◌*◌, ◌/◌, ◌%◌, cond, ◌&&◌, List, [], ◌∷◌, length, is_none, Some, None, Ok, Err, Option, Result, ◌==◌, nat_le, nat_lt}
+use Rattle.std.specs.List.{position}
 use Rattle.std.specs.Option.{unwrap_or}
 use Rattle.std.specs.Result.{result_and}
 use Rattle.text.specs.declared.flaw.Flaw.{Flaw}
@@ -12,10 +13,9 @@ digit c = cond (nat_le 48 c && nat_le c 57) (Some (c - 48)) (cond (nat_le 97 c &
 abbrev pub value : ℕ → ℕ
 value c = unwrap_or (digit c) 0
 
--- where the first character that is no digit stands, if the first of all stands at i
-abbrev pub no_digit : ℕ → List ℕ → Option ℕ
-no_digit i [] = None
-no_digit i (c ∷ cs) = cond (is_some (digit c)) (no_digit (i + 1) cs) (Some i)
+-- where the first character that is no digit stands
+abbrev pub no_digit : List ℕ → Option ℕ
+no_digit cs = position (λ c. is_none (digit c)) cs
 
 abbrev pub refused_at : Option ℕ → Result (Unit {0}) Flaw
 refused_at None = Ok tt
@@ -24,7 +24,7 @@ refused_at (Some place) = Err (NoDigit place)
 -- the three checks of a line: at most 64 characters, all digits, even in number
 abbrev pub checked : List ℕ → Result (Unit {0}) Flaw
 checked cs =
-    cond (nat_lt 64 (length cs)) (Err LongLine) (result_and (refused_at (no_digit 0 cs)) (cond (length cs % 2 == 0) (Ok tt) (Err (OddLength (length cs)))))
+    cond (nat_lt 64 (length cs)) (Err LongLine) (result_and (refused_at (no_digit cs)) (cond (length cs % 2 == 0) (Ok tt) (Err (OddLength (length cs)))))
 
 -- the bytes that pairs of digits stand for
 abbrev pub paired : List ℕ → List ℕ

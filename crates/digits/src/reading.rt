@@ -1,9 +1,6 @@
 // Reading the digits of a line.
-ghost use Rattle.std.specs.Prelude.{◌≡◌, ◌+◌, ◌*◌, ◌<◌, Ok};
-ghost use Rattle.std.specs.Result.{result_map_both};
-ghost use Rattle.digits.specs.declared.line.Bytes.{Bytes};
+ghost use Rattle.std.specs.Prelude.{◌≡◌, ℕ, ◌+◌, ◌*◌, ◌<◌, List, Ok};
 ghost use Rattle.digits.specs.Hex.{digit, value, no_digit, checked, decoded, encoded};
-ghost use Rattle.digits.specs.Held.{contents};
 
 use crate::line::Bytes;
 use text::Flaw;
@@ -24,14 +21,10 @@ pub fn digit_value(c: char) -> Option<u8>
 
 // Where the first character that is no digit stands.
 fn find_no_digit(text: &[u8]) -> Option<usize>
-    ensures { result ≡ no_digit 0 text.now }
+    ensures { result ≡ no_digit text.now }
 {
-    for (place, byte) in text.iter().enumerate() {
-        if digit_value(char::from(*byte)).is_none() {
-            return Some(place);
-        }
-    }
-    None
+    text.iter()
+        .position(|byte| digit_value(char::from(*byte)).is_none())
 }
 
 // Refuses a line that is too long, has a character that is no digit, or is of odd length, in this order.
@@ -68,14 +61,14 @@ fn byte_of(high: u8, low: u8) -> u8
 
 // The bytes that a line stands for, or why it stands for none. What was read is written again as it was.
 pub fn decode(text: &[u8]) -> Result<Bytes, Flaw>
-    ensures bytes { result_map_both contents (λ e. e) result ≡ decoded text.now }
-    ensures again { (b : Bytes) → result ≡ Ok b → encoded (contents b) ≡ text.now }
+    ensures bytes { result ≡ decoded text.now }
+    ensures again { (b : List ℕ) → result ≡ Ok b → encoded b ≡ text.now }
 {
     check(text)?;
-    let len = text.len() / 2;
-    let mut bytes = [0; 32];
-    for i in 0..len {
-        bytes[i] = byte_of(text[2 * i], text[2 * i + 1]);
+    let (pairs, _) = text.as_chunks::<2>();
+    let mut bytes = Bytes::new();
+    for [high, low] in pairs {
+        bytes.push(byte_of(*high, *low));
     }
-    Ok(Bytes { bytes, len })
+    Ok(bytes)
 }

@@ -1,9 +1,9 @@
 // Bytes put together, and written as a line of digits.
 ghost use Rattle.std.specs.Prelude.{◌≡◌, ◌+◌, ◌<◌, ◌≤◌, [], ◌∷◌, ◌++◌, length, Ok};
 ghost use Rattle.digits.specs.Hex.{digit_of, decoded, encoded};
-ghost use Rattle.digits.specs.Held.{contents, line_digits};
 
 use crate::line::{Bytes, Line};
+use arrayvec::ArrayVec;
 
 // The digit of a value.
 fn digit(value: u8) -> u8
@@ -19,79 +19,72 @@ fn digit(value: u8) -> u8
 // The line that bytes are written as.
 fn line_of(bytes: &[u8]) -> Line
     requires { length bytes.now ≤ 32 }
-    ensures digits { line_digits result ≡ encoded bytes.now }
-    ensures back { decoded (line_digits result) ≡ Ok bytes.now }
+    ensures digits { result ≡ encoded bytes.now }
+    ensures back { decoded result ≡ Ok bytes.now }
 {
-    let mut text = [b'\n'; 65];
-    for (i, byte) in bytes.iter().enumerate() {
-        text[2 * i] = digit(*byte / 16);
-        text[2 * i + 1] = digit(*byte % 16);
+    let mut text = ArrayVec::new();
+    for byte in bytes {
+        text.push(digit(*byte / 16));
+        text.push(digit(*byte % 16));
     }
-    let len = 2 * bytes.len();
-    text[len] = b'\n';
-    Line { text, len }
+    text.push(b'\n');
+    Line { text }
 }
 
 impl Line {
     // The digits, without the newline.
     pub fn digits(&self) -> &[u8]
-        ensures { result.now ≡ line_digits self.now }
+        ensures { result.now ≡ self.now }
     {
-        &self.text[0..self.len]
+        let text = self.as_slice();
+        &text[0..text.len() - 1]
     }
 
     // The digits and the newline.
     pub fn as_slice(&self) -> &[u8]
-        ensures { result.now ≡ line_digits self.now ++ 10 ∷ [] }
+        ensures { result.now ≡ self.now ++ 10 ∷ [] }
     {
-        &self.text[0..self.len + 1]
+        self.text.as_slice()
     }
 }
 
 impl Bytes {
     // No bytes yet.
     pub fn new() -> Bytes
-        ensures items { contents result ≡ [] }
-        ensures len { result.len ≡ 0 }
+        ensures { result ≡ [] }
     {
         Bytes {
-            bytes: [0; 32],
-            len: 0,
+            bytes: ArrayVec::new(),
         }
     }
 
     pub fn as_slice(&self) -> &[u8]
-        ensures bytes { result.now ≡ contents self.now }
+        ensures bytes { result.now ≡ self.now }
         ensures short { length result.now ≤ 32 }
     {
-        &self.bytes[0..self.len]
+        self.bytes.as_slice()
     }
 
     // One byte more, where there is room.
     pub fn push(&mut self, byte: u8)
-        requires { self.old.len < 32 }
-        ensures items { contents self.new ≡ contents self.old ++ byte ∷ [] }
-        ensures len { self.new.len ≡ self.old.len + 1 }
+        requires { length self.old < 32 }
+        ensures { self.new ≡ self.old ++ byte ∷ [] }
     {
-        self.bytes[self.len] = byte;
-        self.len += 1;
+        self.bytes.push(byte);
     }
 
     // More bytes, where there is room.
     pub fn append(&mut self, more: &[u8])
-        requires { self.old.len + length more.now ≤ 32 }
-        ensures items { contents self.new ≡ contents self.old ++ more.now }
-        ensures len { self.new.len ≡ self.old.len + length more.now }
+        requires { length self.old + length more.now ≤ 32 }
+        ensures { self.new ≡ self.old ++ more.now }
     {
-        for byte in more {
-            self.push(*byte);
-        }
+        self.bytes.try_extend_from_slice(more).unwrap();
     }
 
     // The bytes as a line, which is read as the bytes again.
     pub fn to_line(&self) -> Line
-        ensures digits { line_digits result ≡ encoded (contents self.now) }
-        ensures back { decoded (line_digits result) ≡ Ok (contents self.now) }
+        ensures digits { result ≡ encoded self.now }
+        ensures back { decoded result ≡ Ok self.now }
     {
         line_of(self.as_slice())
     }

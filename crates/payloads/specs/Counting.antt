@@ -1,9 +1,8 @@
 -- A counter's bytes are read as it, whatever follows them, and only they are.
-use Rattle.std.specs.Prelude.{◌≡◌, ℕ, ◌^◌, ◌<◌, ◌≤◌, List, ◌++◌, length, take, drop, ℤ, pos, negsuc, ◌≤ℤ◌, Some, Option, nat_le, refl}
-use Rattle.std.proofs.Common.{sym, ap, ◌∙◌, append_assoc, arith, le→leb, leb→le, of_z, to_z, length-drop, take-append-drop}
+use Rattle.std.specs.Prelude.{◌≡◌, ℕ, ◌^◌, ◌<◌, ◌≤◌, List, ◌++◌, length, take, drop, ℤ, pos, negsuc, ◌≤ℤ◌, Some, nat_le, refl}
+use Rattle.std.proofs.Common.{sym, ap, ◌∙◌, append_assoc, arith, le→leb, leb→le, length-drop, take-append-drop}
 use Rattle.std.specs.Int.Signed.{mag}
 use Rattle.std.proofs.lemmas.Int.{ints}
-use Rattle.std.specs.Int.{w32}
 use Rattle.std.specs.Int.Digits.{AllBelowBase}
 use Rattle.std.proofs.ByRecursion.{All-drop}
 use Rattle.words.proofs.Giving.{given_passed, given_some}
@@ -20,11 +19,6 @@ use Rattle.payloads.specs.Fronts.{front_back, front_below, begins}
 small_amount : (z : ℤ) → negsuc 999999 ≤ℤ z → z ≤ℤ pos 1000000 → mag z < 2 ^ 31
 small_amount (pos n) low high = omega (arith, ints)
 small_amount (negsuc n) low high = omega (arith, ints)
-
--- what the cast of an amount gives
-pub amount_bits : (z : ℤ) → negsuc 999999 ≤ℤ z → z ≤ℤ pos 1000000 → of_z w32 (to_z w32 (of_z w32 z)) ≡ twos_complement z
-amount_bits (pos n) low high = omega (arith, ints)
-amount_bits (negsuc n) low high = omega (arith, ints)
 
 pub counter_again : (c : Counter) (rest : List ℕ) → counter_parsed (counter_layout c ++ rest) ≡ Some c
 counter_again c rest =
@@ -59,14 +53,12 @@ counter_exact bs c u is =
     ∙ take-append-drop 4 bs in
     begins (counter_layout c) (drop 4 b2) bs 12 whole refl
 
--- what the reading function makes of three numbers
-pub counter_made : (bs r₁ r₂ : List ℕ) (a f m : ℕ) (z : ℤ) (r : Option Counter) → 12 ≤ length bs → a ≡ worth (take 4 bs) → r₁ ≡ drop 4 bs → f ≡ worth (take 4 r₁) → r₂ ≡ drop 4 r₁ → m ≡ worth (take 4 r₂) →
-    z ≡ signed a → r ≡ counter_of z f m → r ≡ counter_parsed bs
-counter_made bs r₁ r₂ a f m z r long amount rest floor more ceiling cast made =
-    let second : f ≡ worth (take 4 (drop 4 bs)) = floor ∙ ap (λ l. worth (take 4 l)) rest in
-    let third : m ≡ worth (take 4 (drop 4 (drop 4 bs))) = ceiling ∙ ap (λ l. worth (take 4 l)) (more ∙ ap (drop 4) rest) in
-    made ∙ ap (λ x. counter_of x f m) (cast ∙ ap signed amount) ∙ ap (λ x. counter_of (signed (worth (take 4 bs))) x m) second
-    ∙ ap (counter_of (signed (worth (take 4 bs))) (worth (take 4 (drop 4 bs)))) third
+-- the counter of three numbers, read one after the other
+pub counter_made : (bs : List ℕ) (a f m : ℕ) → 12 ≤ length bs → a ≡ worth (take 4 bs) → f ≡ worth (take 4 (drop 4 bs)) → m ≡ worth (take 4 (drop 4 (drop 4 bs))) →
+    counter_of (signed a) f m ≡ counter_parsed bs
+counter_made bs a f m long amount floor ceiling =
+    ap (λ n. counter_of (signed n) f m) amount ∙ ap (λ n. counter_of (signed (worth (take 4 bs))) n m) floor
+    ∙ ap (counter_of (signed (worth (take 4 bs))) (worth (take 4 (drop 4 bs)))) ceiling
     ∙ sym (given_passed (nat_le 12 (length bs)) _ (le→leb 12 (length bs) long))
 
 -- three numbers appended one after the other

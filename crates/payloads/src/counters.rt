@@ -1,23 +1,36 @@
 // The payload of a counter: amount, floor and ceiling.
-ghost use Rattle.std.specs.Prelude.{◌≡◌, ◌+◌, ◌≤◌, ◌++◌};
+ghost use Rattle.std.specs.Prelude.{◌≡◌, ◌+◌, ◌≤◌, ◌++◌, length};
 ghost use Rattle.big_endian.specs.Numbers.{bytes_of};
-ghost use Rattle.digits.specs.Held.{contents};
+ghost use Rattle.times.specs.Places.{twos_complement, signed};
 ghost use Rattle.payloads.specs.Counters.{counter_layout, counter_parsed};
 ghost use Rattle.payloads.specs.Counting.{counter_again, counter_exact};
 ghost use Rattle.std.proofs.Common.{rules};
 
 use crate::payload::Payload;
-use big_endian::{split_u32, u32_bytes};
+use big_endian::{BigEndian, split};
 use counter::Counter;
 use digits::Bytes;
 
-// Appends a number, where there is room for it.
-fn append_u32(number: u32, out: &mut Bytes)
-    requires { out.old.len + 4 ≤ 32 }
-    ensures items { contents out.new ≡ contents out.old ++ bytes_of 4 number }
-    ensures len { out.new.len ≡ out.old.len + 4 }
+// A counter's amount in two's complement.
+fn amount_bits(counter: Counter) -> u32
+    ensures { result ≡ twos_complement counter.amount }
 {
-    out.append(&u32_bytes(number));
+    counter.amount().cast_unsigned()
+}
+
+// The amount whose two's complement a number is.
+fn amount_of(number: u32) -> i32
+    ensures { result ≡ signed number }
+{
+    number.cast_signed()
+}
+
+// Appends the bytes of a number, where there is room.
+fn append_number(number: u32, out: &mut Bytes)
+    requires { length out.old + 4 ≤ 32 }
+    ensures { out.new ≡ out.old ++ bytes_of 4 number }
+{
+    out.append(&number.to_bytes());
 }
 
 impl Payload for Counter {
@@ -47,16 +60,17 @@ impl Payload for Counter {
         12
     }
 
+    #[tactic(auto, using(crate::specs::Counting::counter_made))]
     fn parse(bytes: &[u8]) -> Option<Counter> {
-        let (amount, rest) = split_u32(bytes)?;
-        let (floor, rest) = split_u32(rest)?;
-        let (ceiling, _) = split_u32(rest)?;
-        Counter::new(amount.cast_signed(), floor, ceiling)
+        let (amount, rest) = split::<u32, 4>(bytes)?;
+        let (floor, rest) = split(rest)?;
+        let (ceiling, _) = split(rest)?;
+        Counter::new(amount_of(amount), floor, ceiling)
     }
 
     fn append(form: Counter, out: &mut Bytes) {
-        append_u32(form.amount().cast_unsigned(), out);
-        append_u32(form.floor(), out);
-        append_u32(form.ceiling(), out);
+        append_number(amount_bits(form), out);
+        append_number(form.floor(), out);
+        append_number(form.ceiling(), out);
     }
 }

@@ -1,7 +1,6 @@
 // What an entry carries besides its time.
 ghost use Rattle.std.specs.Prelude.{◌≡◌, ℕ, ◌+◌, ◌≤◌, List, ◌++◌, length, take, Some, Option};
 ghost use Rattle.std.specs.Int.Digits.{AllBelowBase};
-ghost use Rattle.digits.specs.Held.{contents};
 
 use digits::Bytes;
 use effects::Effect;
@@ -36,9 +35,8 @@ pub trait Payload: Effect {
 
     // Appends the payload's bytes, where there is room for them.
     fn append(form: Self::Form, out: &mut Bytes)
-        requires { out.old.len + length (layout form) ≤ 32 }
-        ensures items { contents out.new ≡ contents out.old ++ layout form }
-        ensures len { out.new.len ≡ out.old.len + length (layout form) };
+        requires { length out.old + length (layout form) ≤ 32 }
+        ensures { out.new ≡ out.old ++ layout form };
 
     // a payload has at most 23 bytes: with code and time a line holds it
     ghost short: { (p : Self.Form) → length (layout p) ≤ 23 };

@@ -1,12 +1,11 @@
 // The payload of settings: the mask, and a value for each field that it has.
 ghost use Rattle.std.specs.Prelude.{◌≡◌, ◌+◌, ◌<◌, ◌≤◌, ◌++◌, length};
-ghost use Rattle.digits.specs.Held.{contents};
 ghost use Rattle.settings.specs.Masks.{masked};
 ghost use Rattle.payloads.specs.Setups.{field_bytes, Splits, settings_layout, settings_size, settings_in, settings_parsed};
 ghost use Rattle.payloads.specs.Masking.{settings_short, settings_sized, settings_again, settings_exact};
 
 use crate::payload::Payload;
-use big_endian::{split_u16, u16_bytes};
+use big_endian::{BigEndian, split};
 use digits::Bytes;
 use settings::Settings;
 
@@ -16,7 +15,7 @@ fn split_field(mask: u8, field: u32, bytes: &[u8]) -> Option<(Option<u16>, &[u8]
     ensures { Splits (masked mask field) bytes.now result }
 {
     if (mask >> field) % 2 == 1 {
-        let (value, rest) = split_u16(bytes)?;
+        let (value, rest) = split(bytes)?;
         Some((Some(value), rest))
     } else {
         Some((None, bytes))
@@ -25,12 +24,11 @@ fn split_field(mask: u8, field: u32, bytes: &[u8]) -> Option<(Option<u16>, &[u8]
 
 // Appends the bytes of a field, where there is room for them.
 fn append_field(field: Option<u16>, out: &mut Bytes)
-    requires { out.old.len + length (field_bytes field) ≤ 32 }
-    ensures items { contents out.new ≡ contents out.old ++ field_bytes field }
-    ensures len { out.new.len ≡ out.old.len + length (field_bytes field) }
+    requires { length out.old + length (field_bytes field) ≤ 32 }
+    ensures { out.new ≡ out.old ++ field_bytes field }
 {
     if let Some(value) = field {
-        out.append(&u16_bytes(value));
+        out.append(&value.to_bytes());
     }
 }
 

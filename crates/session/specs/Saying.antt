@@ -6,7 +6,6 @@ use Rattle.text.specs.Cut as text
 use Rattle.text.specs.Cut.{Part, remark, frame, part}
 use Rattle.digits.specs.declared.line.Line.{Line}
 use Rattle.digits.specs.Hex.{encoded}
-use Rattle.digits.specs.Held.{line_digits}
 use Rattle.calls.specs.declared.call.Call.{Call}
 use Rattle.calls.specs.declared.call.Call.TheVariants as calls
 use Rattle.commands.specs.declared.command.Command.{Command}
@@ -27,7 +26,7 @@ bytes_of (frame l) = l.bytes
 -- what an answer adds to the output
 abbrev pub written : Option Line → List ℕ
 written None = []
-written (Some line) = line_digits line ++ (10 ∷ [])
+written (Some line) = line ++ (10 ∷ [])
 
 -- A line to an open record: a remark, a frame that is refused, or a call of the ledger under the code of its frame.
 pub data Said (E T : Type 0) : Type 0 where

@@ -7,5 +7,5 @@ use Rattle.cells.proofs.codec.decode.Goals as goal
 pub returns : goal.returns
 unfolding cell_of
 returns c =
-    let value = same_cell _ _ _ _ _ _ _ _ _ _ _ _ _ _ c.u64_at.ensures c.u32_at.ensures c.u32_at-2.ensures c.u32_at-3.ensures c.u32_at-4.ensures c.words_at.ensures c.words_at-2.ensures in
+    let value = same_cell _ _ _ _ _ _ _ _ _ _ _ _ _ _ c.number_at.ensures c.number_at-2.ensures c.number_at-3.ensures c.number_at-4.ensures c.number_at-5.ensures c.words_at.ensures c.words_at-2.ensures in
     record { value = value; back = ap layout value ∙ layout_cell_of c.args.bytes.now c.told-bytes c.fits-bytes }

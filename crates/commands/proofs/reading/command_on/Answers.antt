@@ -1,6 +1,5 @@
 use Rattle.std.proofs.Common.{sym, ap, ◌∙◌}
 use Rattle.digits.specs.Hex.{encoded}
-use Rattle.digits.specs.Held.{contents}
 use Rattle.digits.proofs.Round.{under_read, written_read}
 use Rattle.commands.specs.Frames.{forms, and_then, command_in}
 use Rattle.commands.proofs.RoundTrip.{command_exact}
@@ -12,7 +11,7 @@ returns g c =
     let time = g.met.T.Time in
     let payload = g.met.E.Payload in
     let line = c.args.line.now in
-    let bytes = contents c.in_ok-frame.frame in
+    let bytes = c.in_ok-frame.frame in
     let read = c.in_ok-frame.ensures.bytes in
     let is = c.command_in.ensures ∙ ap (command_in k c.args.opened) c.as_slice.ensures.bytes in
     record {

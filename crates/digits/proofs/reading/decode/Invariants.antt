@@ -1,7 +1,7 @@
--- The bytes so far, and those of the digits that are left.
-use Rattle.std.proofs.Common.{◌≡◌, ◌*◌, ◌++◌, length, take, drop}
-use Rattle.digits.specs.Hex.{paired}
+-- The bytes so far, one of each pair, and those of the pairs that are left.
+use Rattle.std.proofs.Common.{◌≡◌, ◌++◌, length, drop, map}
+use Rattle.digits.proofs.Decoding.{pair_worth}
 use Rattle.digits.proofs.reading.decode.Given as goal
 
-abbrev pub invariant-loop-i : goal.invariant-loop-i
-invariant-loop-i l = (length l.bytes ≡ 32) × (take l.i l.bytes ++ paired (drop (2 * l.i) l.text) ≡ paired l.text)
+abbrev pub invariant-loop-high : goal.invariant-loop-high
+invariant-loop-high l = (length l.bytes ≡ l.high-index) × (l.bytes ++ map pair_worth (drop l.high-index l.pairs) ≡ map pair_worth l.pairs)

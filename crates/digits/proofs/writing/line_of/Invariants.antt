@@ -1,7 +1,7 @@
--- The digits so far, and those of the bytes that are left.
-use Rattle.std.proofs.Common.{◌≡◌, ◌*◌, ◌++◌, length, take, drop}
+-- The digits so far, two of each byte, and those of the bytes that are left.
+use Rattle.std.proofs.Common.{◌≡◌, ◌*◌, ◌++◌, length, drop}
 use Rattle.digits.specs.Hex.{encoded}
 use Rattle.digits.proofs.writing.line_of.Given as goal
 
-abbrev pub invariant-loop-i : goal.invariant-loop-i
-invariant-loop-i l = (length l.text ≡ 65) × (take (2 * l.i) l.text ++ encoded (drop l.i l.bytes) ≡ encoded l.bytes)
+abbrev pub invariant-loop-byte : goal.invariant-loop-byte
+invariant-loop-byte l = (length l.text.items ≡ 2 * l.byte-index) × (l.text.items ++ encoded (drop l.byte-index l.bytes) ≡ encoded l.bytes)

@@ -1,15 +1,9 @@
-use Rattle.std.proofs.Common.{ap, ◌∙◌, arith, w32, to_z, of_z}
-use Rattle.digits.specs.Held.{contents}
-use Rattle.payloads.specs.Counting.{amount_bits, appended}
+-- The bytes of the three numbers go one after the other.
+use Rattle.payloads.specs.Counting.{appended}
 use Rattle.payloads.proofs.counters.CounterPayload.append.Goals as goal
 
 pub returns : goal.returns
 returns c =
-    let form = c.args.form in
-    let bits = c.cast_unsigned.ensures ∙ ap (λ z. of_z w32 (to_z w32 (of_z w32 z))) c.amount.ensures ∙ amount_bits form.amount form.least form.most in
-    record {
-      items = appended (contents c.args.out.now) (contents c.append_u32.new.out) (contents c.append_u32-2.new.out) (contents c.append_u32-3.new.out)
-          c.cast_unsigned.result c.floor.result c.ceiling.result _ form.floor.hundredths form.ceiling.hundredths
-          c.append_u32.ensures.items c.append_u32-2.ensures.items c.append_u32-3.ensures.items bits c.floor.ensures c.ceiling.ensures;
-      len = omega arith;
-    }
+    appended c.args.out.now c.append_number.new.out c.append_number-2.new.out c.append_number-3.new.out c.amount_bits.result c.floor.result c.ceiling.result
+    _ c.args.form.floor.hundredths c.args.form.ceiling.hundredths
+    c.append_number.ensures c.append_number-2.ensures c.append_number-3.ensures c.amount_bits.ensures c.floor.ensures c.ceiling.ensures

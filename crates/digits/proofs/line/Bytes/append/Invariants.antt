@@ -1,8 +1,0 @@
--- The bytes of before, and as many of the new as were pushed.
-use Rattle.std.proofs.Common.{◌≡◌, ◌+◌, ◌++◌, take}
-use Rattle.digits.specs.Held.{contents}
-use Rattle.digits.proofs.line.Bytes.append.Given as goal
-
-abbrev pub invariant-loop-byte : goal.invariant-loop-byte
-invariant-loop-byte l =
-    (contents l.self ≡ contents l.initial.self ++ take l.byte-index l.more) × (l.self.len ≡ l.initial.self.len + l.byte-index)
