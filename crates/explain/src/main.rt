@@ -55,7 +55,7 @@ impl Line<'_> {
     fn explain<E: Payload, T: Time>(self, opened: bool) -> anyhow::Result<Option<Opening>>
     where
         Words<E::Form>: fmt::Display,
-        Words<T>: fmt::Display,
+        T: fmt::Display,
     {
         match read::<E, T>(self.text, opened) {
             Ok(command) => {

@@ -1,10 +1,9 @@
-// Commands, openings, payloads and times in words.
-use commands::{Command, EffectKind, Opening, TimeKind};
+// Commands and payloads in words.
+use commands::Command;
 use counter::Counter;
 use settings::Settings;
 use status::Event;
 use std::fmt;
-use times::{Clock, Place};
 
 // A value, to be printed in words.
 #[derive(Clone, Copy)]
@@ -13,60 +12,21 @@ pub(crate) struct Words<T>(pub(crate) T);
 impl<P: Copy, T: Copy> fmt::Display for Words<Command<P, T>>
 where
     Words<P>: fmt::Display,
-    Words<T>: fmt::Display,
+    T: fmt::Display,
 {
     fn fmt<W: fmt::Write>(&self, f: &mut fmt::Formatter<W>) -> fmt::Result {
         match self.0 {
-            Command::Open { opening } => write!(f, "{}", Words(opening)),
-            Command::Enter { time, payload } => {
-                write!(f, "enter at {}: {}", Words(time), Words(payload))
-            }
+            Command::Open { opening } => write!(f, "{opening}"),
+            Command::Enter { time, payload } => { write!(f, "enter at {time}: {}", Words(payload)) }
             Command::Withdraw { operation } => write!(f, "withdraw operation {operation}"),
             Command::State { belief, time } => {
-                write!(f, "state at {}, as believed at {belief}", Words(time))
+                write!(f, "state at {time}, as believed at {belief}")
             }
-            Command::Latest { belief, time } => write!(
-                f,
-                "latest operation at {}, as believed at {belief}",
-                Words(time)
-            ),
+            Command::Latest { belief, time } => {
+                write!(f, "latest operation at {time}, as believed at {belief}")
+            }
             Command::Count { belief } => write!(f, "count of operations, as believed at {belief}"),
         }
-    }
-}
-
-impl fmt::Display for Words<Opening> {
-    fn fmt<W: fmt::Write>(&self, f: &mut fmt::Formatter<W>) -> fmt::Result {
-        let Opening {
-            effects,
-            times,
-            quota,
-        } = self.0;
-        write!(
-            f,
-            "open with {} on {}, quota {quota} cells",
-            Words(effects),
-            Words(times)
-        )
-    }
-}
-
-impl fmt::Display for Words<EffectKind> {
-    fn fmt<W: fmt::Write>(&self, f: &mut fmt::Formatter<W>) -> fmt::Result {
-        f.write_str(match self.0 {
-            EffectKind::Counter => "counter",
-            EffectKind::Settings => "settings",
-            EffectKind::Status => "status",
-        })
-    }
-}
-
-impl fmt::Display for Words<TimeKind> {
-    fn fmt<W: fmt::Write>(&self, f: &mut fmt::Formatter<W>) -> fmt::Result {
-        f.write_str(match self.0 {
-            TimeKind::Clock => "clock",
-            TimeKind::Place => "place",
-        })
     }
 }
 
@@ -108,30 +68,6 @@ impl fmt::Display for Words<Settings> {
 
 impl fmt::Display for Words<Event> {
     fn fmt<W: fmt::Write>(&self, f: &mut fmt::Formatter<W>) -> fmt::Result {
-        f.write_str(match self.0 {
-            Event::PowerOn => "power on",
-            Event::PowerOff => "power off",
-            Event::Heat => "heat",
-            Event::Start => "start",
-            Event::Pause => "pause",
-            Event::Resume => "resume",
-            Event::EndOfJob => "end of job",
-            Event::Cooled => "cooled",
-            Event::IntoService => "into service",
-            Event::OutOfService => "out of service",
-            Event::Fault => "fault",
-        })
-    }
-}
-
-impl fmt::Display for Words<Clock> {
-    fn fmt<W: fmt::Write>(&self, f: &mut fmt::Formatter<W>) -> fmt::Result {
-        write!(f, "{} s", self.0.seconds())
-    }
-}
-
-impl fmt::Display for Words<Place> {
-    fn fmt<W: fmt::Write>(&self, f: &mut fmt::Formatter<W>) -> fmt::Result {
-        write!(f, "job {}, layer {}", self.0.job(), self.0.layer())
+        write!(f, "{}", self.0)
     }
 }

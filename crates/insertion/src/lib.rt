@@ -24,7 +24,7 @@ fn insert_from<E: Effect, T: Time, S: Store>(
     k: u32,
     op: Operation<E, T>,
 ) -> Result<Side<E>, Fault>
-    requires held { Held E.Effect T.Time (S.Store.meaning store.old).cells k }
+    requires { Held E.Effect T.Time (S.Store.meaning store.old).cells k }
     ensures grew { Grew S.Store store.old store.new }
     ensures inserts { Inserts E.Effect T.Time (S.Store.meaning store.old) (S.Store.meaning store.new) k op result }
 {

@@ -42,7 +42,7 @@ impl<E: Effect, T: Time, S: Store> Ledger<E, T, S> {
 
     // Claims the cells of a change that only the store can refuse.
     pub(crate) fn claim(&self, cells: u32) -> Result<(), Fault>
-        requires room { self.now.latest < 1023 }
+        requires { self.now.latest < 1023 }
         ensures granted { OnOk result (claimed (S.Store.meaning self.now.store) cells ≡ Ok tt) }
         ensures entry { IfErr result (λ fault. (time : _) (effect : _) → cells ≡ 42 → Step (kinds E.Effect T.Time) (Enter time effect) (Err (Store fault)) (shown E.Effect T.Time S.Store self.now) (shown E.Effect T.Time S.Store self.now)) }
         ensures withdrawal { IfErr result (λ fault. (operation : ℕ) → has operation (latest_belief (shown E.Effect T.Time S.Store self.now).beliefs) ≡ true → cells ≡ 42 → Step (kinds E.Effect T.Time) (Withdraw operation) (Err (Store fault)) (shown E.Effect T.Time S.Store self.now) (shown E.Effect T.Time S.Store self.now)) }

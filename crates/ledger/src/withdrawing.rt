@@ -46,7 +46,7 @@ impl<E: Effect, T: Time, S: Store> Ledger<E, T, S> {
 
     // The time of an operation of the latest belief, if it is there.
     fn sought(&mut self, operation: u32) -> Result<Option<T>, Refusal>
-        requires room { self.old.latest < 1023 }
+        requires { self.old.latest < 1023 }
         ensures rows { self.new.rows ≡ self.old.rows }
         ensures latest { self.new.latest ≡ self.old.latest }
         ensures buffer { S.Store.buffer self.new.store ≡ S.Store.buffer self.old.store }

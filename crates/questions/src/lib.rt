@@ -35,7 +35,7 @@ fn carry_from<E: Effect, T: Time, S: Store>(
     until: T,
     from: E::State,
 ) -> Result<E::State, Fault>
-    requires held { Held E.Effect T.Time (S.Store.meaning store.old).cells k }
+    requires { Held E.Effect T.Time (S.Store.meaning store.old).cells k }
     ensures same { Unchanged S.Store store.old store.new }
     ensures carries { Carries E.Effect T.Time (S.Store.meaning store.old) k until from result }
 {
@@ -63,7 +63,7 @@ fn last_from<E: Effect, T: Time, S: Store>(
     k: u32,
     at: T,
 ) -> Result<Option<(u32, T)>, Fault>
-    requires held { Held E.Effect T.Time (S.Store.meaning store.old).cells k }
+    requires { Held E.Effect T.Time (S.Store.meaning store.old).cells k }
     ensures same { Unchanged S.Store store.old store.new }
     ensures lasts { Lasts E.Effect T.Time (S.Store.meaning store.old) k at result }
 {
@@ -90,7 +90,7 @@ fn find_from<E: Effect, T: Time, S: Store>(
     k: u32,
     sought: Operation<E, T>,
 ) -> Result<bool, Fault>
-    requires held { Held E.Effect T.Time (S.Store.meaning store.old).cells k }
+    requires { Held E.Effect T.Time (S.Store.meaning store.old).cells k }
     ensures same { Unchanged S.Store store.old store.new }
     ensures finds { Finds E.Effect T.Time (S.Store.meaning store.old) k sought result }
 {
@@ -118,7 +118,7 @@ pub fn state_at<E: Effect, T: Time, S: Store>(
     root: u32,
     at: T,
 ) -> Result<E::State, Fault>
-    requires stands { Standing E.Effect T.Time (S.Store.meaning store.old).cells root }
+    requires { Standing E.Effect T.Time (S.Store.meaning store.old).cells root }
     ensures same { Unchanged S.Store store.old store.new }
     ensures state { result ≡ Ok (state (kinds E.Effect T.Time) (read_from E.Effect T.Time (S.Store.meaning store.old).cells root) at) }
 {
@@ -131,7 +131,7 @@ pub fn latest_at<E: Effect, T: Time, S: Store>(
     root: u32,
     at: T,
 ) -> Result<Option<(u32, T)>, Fault>
-    requires stands { Standing E.Effect T.Time (S.Store.meaning store.old).cells root }
+    requires { Standing E.Effect T.Time (S.Store.meaning store.old).cells root }
     ensures same { Unchanged S.Store store.old store.new }
     ensures latest { result ≡ Ok (latest (kinds E.Effect T.Time) (read_from E.Effect T.Time (S.Store.meaning store.old).cells root) at) }
 {
@@ -145,7 +145,7 @@ pub fn find<E: Effect, T: Time, S: Store>(
     number: u32,
     time: T,
 ) -> Result<bool, Fault>
-    requires stands { Standing E.Effect T.Time (S.Store.meaning store.old).cells root }
+    requires { Standing E.Effect T.Time (S.Store.meaning store.old).cells root }
     ensures same { Unchanged S.Store store.old store.new }
     ensures found { result ≡ Ok (has (kinds E.Effect T.Time) number time (read_from E.Effect T.Time (S.Store.meaning store.old).cells root)) }
 {

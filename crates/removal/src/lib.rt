@@ -61,7 +61,7 @@ fn close<E: Effect, T: Time, S: Store>(
     left: Side<E>,
     right: Side<E>,
 ) -> Result<Side<E>, Fault>
-    requires held { Held E.Effect T.Time (S.Store.meaning store.old).cells right.number }
+    requires { Held E.Effect T.Time (S.Store.meaning store.old).cells right.number }
     ensures grew { Grew S.Store store.old store.new }
     ensures closes { Closes E.Effect T.Time (S.Store.meaning store.old) (S.Store.meaning store.new) left right result }
 {
@@ -85,7 +85,7 @@ fn take_out<E: Effect, T: Time, S: Store>(
     k: u32,
     sought: Operation<E, T>,
 ) -> Result<Side<E>, Fault>
-    requires held { Held E.Effect T.Time (S.Store.meaning store.old).cells k }
+    requires { Held E.Effect T.Time (S.Store.meaning store.old).cells k }
     ensures grew { Grew S.Store store.old store.new }
     ensures takes { TakesOut E.Effect T.Time (S.Store.meaning store.old) (S.Store.meaning store.new) k sought result }
 {
@@ -128,7 +128,7 @@ pub fn remove<E: Effect, T: Time, S: Store>(
     number: u32,
     time: T,
 ) -> Result<Option<u32>, Fault>
-    requires stands { Standing E.Effect T.Time (S.Store.meaning store.old).cells root }
+    requires { Standing E.Effect T.Time (S.Store.meaning store.old).cells root }
     ensures grew { Grew S.Store store.old store.new }
     ensures absent { has (kinds E.Effect T.Time) number time (read_from E.Effect T.Time (S.Store.meaning store.old).cells root) ≡ false → (result ≡ Ok None) × Unchanged S.Store store.old store.new }
     ensures removed { has (kinds E.Effect T.Time) number time (read_from E.Effect T.Time (S.Store.meaning store.old).cells root) ≡ true → fault_of (S.Store.meaning store.old) (remove_cost (height_at (S.Store.meaning store.old).cells root)) ≡ None → Removed E.Effect T.Time (S.Store.meaning store.old) (S.Store.meaning store.new) root number time result (remove_cost (height_at (S.Store.meaning store.old).cells root)) }

@@ -54,7 +54,7 @@ fn carry_out_all<E: Effect, T: Time, S: Store>(
 )
     requires empty { (answers.old.items ≡ []) × (vec_len answers.old ≡ 0) }
     requires room { length calls.now ≤ vec_capacity answers.old }
-    ensures run { Run (kinds E.Effect T.Time) calls.now answers.new.items (shown E.Effect T.Time S.Store ledger.old) (shown E.Effect T.Time S.Store ledger.new) }
+    ensures { Run (kinds E.Effect T.Time) calls.now answers.new.items (shown E.Effect T.Time S.Store ledger.old) (shown E.Effect T.Time S.Store ledger.new) }
 {
     for call in calls {
         let answer = carry_out(ledger, *call);

@@ -57,7 +57,7 @@ fn serve_as<S: Store>(opening: Opening, store: S, talk: &mut Talk) -> Record<S>
 
 // Answers all lines to a record over a store.
 fn serve_all<S: Store>(store: S, talk: &mut Talk) -> Record<S>
-    requires empty { talk.old.out.items ≡ [] }
+    requires { talk.old.out.items ≡ [] }
     ensures { AnsweredFrom S.Store store (until_opening (unread talk.old.reader)) result talk.new.out.items }
 {
     match answer_until_opening(talk) {

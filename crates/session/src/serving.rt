@@ -11,7 +11,7 @@ use crate::Session;
 use crate::talk::Talk;
 use answers::{answer_line, flaw_line};
 use calls::Call;
-use commands::{Command, read};
+use commands::{Code, Command, read};
 use digits::Line;
 use ledger::Ledger;
 use payloads::Payload;
@@ -23,7 +23,7 @@ use times::Time;
 impl<E: Payload, T: Time, S: Store> Session<E, T, S> {
     // A record over a store, open and with nothing entered.
     pub fn open(store: S) -> Self
-        ensures shown { shown E.Effect T.Time S.Store result.ledger ≡ opened (S.Store.meaning store) }
+        ensures { shown E.Effect T.Time S.Store result.ledger ≡ opened (S.Store.meaning store) }
     {
         Session {
             ledger: Ledger::open(store),
@@ -32,7 +32,7 @@ impl<E: Payload, T: Time, S: Store> Session<E, T, S> {
 
     // The store, with all its cells.
     pub fn close(self) -> S
-        ensures meaning { S.Store.meaning result ≡ (shown E.Effect T.Time S.Store self.ledger).store }
+        ensures { S.Store.meaning result ≡ (shown E.Effect T.Time S.Store self.ledger).store }
     {
         let Session { ledger } = self;
         ledger.close()
@@ -56,30 +56,30 @@ impl<E: Payload, T: Time, S: Store> Session<E, T, S> {
             Command::Open { .. } => flaw_line(Flaw::BadCode),
             Command::Enter { time, payload } => {
                 let effect = E::effect(payload);
-                self.call(0x10, Call::Enter { time, effect })
+                self.call(Code::Enter as u8, Call::Enter { time, effect })
             }
             Command::Withdraw { operation } => self.call(
-                0x11,
+                Code::Withdraw as u8,
                 Call::Withdraw {
                     operation: u32::from(operation),
                 },
             ),
             Command::State { belief, time } => self.call(
-                0x20,
+                Code::State as u8,
                 Call::State {
                     belief: u32::from(belief),
                     time,
                 },
             ),
             Command::Latest { belief, time } => self.call(
-                0x21,
+                Code::Latest as u8,
                 Call::Latest {
                     belief: u32::from(belief),
                     time,
                 },
             ),
             Command::Count { belief } => self.call(
-                0x22,
+                Code::Count as u8,
                 Call::Count {
                     belief: u32::from(belief),
                 },

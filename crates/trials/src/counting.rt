@@ -36,7 +36,7 @@ pub struct Counting<S: Store> {
 
 impl<S: Store> Counting<S> {
     pub(crate) fn open(below: S) -> Counting<S>
-        ensures meaning { counting_meaning S.Store result ≡ S.Store.meaning below }
+        ensures { counting_meaning S.Store result ≡ S.Store.meaning below }
     {
         let calls = Calls { gets: 0, puts: 0 };
         Counting { below, calls }

@@ -17,8 +17,8 @@ returns-in_err-side g c =
     record {
       grew = grew_after g.S.Store a.store.now c.find.new.store c.take_out.new.store c.find.ensures.same c.take_out.ensures.grew;
       absent = found_there c.in_ok-find.field-0 (has (kinds g.E.Effect g.T.Time) a.number a.time (read_from g.E.Effect g.T.Time (mean a.store.now).cells a.root)) c.if-not-branch.false c.in_ok-find.ensures.found;
-      removed = λ _. not_refused g.E.Effect g.T.Time g.met.E.Effect.back g.met.T.Time.back laws (mean a.store.now) (mean c.find.new.store) (mean c.take_out.new.store) a.root (record { number = a.number; time = a.time; effect = c.no_change.result }) c.find.ensures.same.meaning c.requires.stands c.in_err-side.field-0.0 c.in_err-side.ensures.takes;
-      claimed = λ _. not_refused_42 g.E.Effect g.T.Time g.met.E.Effect.back g.met.T.Time.back laws (mean a.store.now) (mean c.find.new.store) (mean c.take_out.new.store) a.root (record { number = a.number; time = a.time; effect = c.no_change.result }) c.find.ensures.same.meaning c.requires.stands c.in_err-side.field-0.0 c.in_err-side.ensures.takes;
+      removed = λ _. not_refused g.E.Effect g.T.Time g.met.E.Effect.back g.met.T.Time.back laws (mean a.store.now) (mean c.find.new.store) (mean c.take_out.new.store) a.root (record { number = a.number; time = a.time; effect = c.no_change.result }) c.find.ensures.same.meaning c.requires c.in_err-side.field-0.0 c.in_err-side.ensures.takes;
+      claimed = λ _. not_refused_42 g.E.Effect g.T.Time g.met.E.Effect.back g.met.T.Time.back laws (mean a.store.now) (mean c.find.new.store) (mean c.take_out.new.store) a.root (record { number = a.number; time = a.time; effect = c.no_change.result }) c.find.ensures.same.meaning c.requires c.in_err-side.field-0.0 c.in_err-side.ensures.takes;
       named = struck_without (kinds g.E.Effect g.T.Time) laws a.number a.time (read_from g.E.Effect g.T.Time (mean a.store.now).cells a.root);
     }
 
@@ -30,8 +30,8 @@ returns g c =
     record {
       grew = grew_after g.S.Store a.store.now c.find.new.store c.take_out.new.store c.find.ensures.same c.take_out.ensures.grew;
       absent = found_there c.in_ok-find.field-0 (has (kinds g.E.Effect g.T.Time) a.number a.time (read_from g.E.Effect g.T.Time (mean a.store.now).cells a.root)) c.if-not-branch.false c.in_ok-find.ensures.found;
-      removed = λ _. removed g.E.Effect g.T.Time g.met.E.Effect.back g.met.T.Time.back laws (mean a.store.now) (mean c.find.new.store) (mean c.take_out.new.store) a.root (record { number = a.number; time = a.time; effect = c.no_change.result }) c.find.ensures.same.meaning c.requires.stands c.in_ok-side.side c.in_ok-side.ensures.takes;
-      claimed = λ _. removed_42 g.E.Effect g.T.Time g.met.E.Effect.back g.met.T.Time.back laws (mean a.store.now) (mean c.find.new.store) (mean c.take_out.new.store) a.root (record { number = a.number; time = a.time; effect = c.no_change.result }) c.find.ensures.same.meaning c.requires.stands c.in_ok-side.side c.in_ok-side.ensures.takes;
+      removed = λ _. removed g.E.Effect g.T.Time g.met.E.Effect.back g.met.T.Time.back laws (mean a.store.now) (mean c.find.new.store) (mean c.take_out.new.store) a.root (record { number = a.number; time = a.time; effect = c.no_change.result }) c.find.ensures.same.meaning c.requires c.in_ok-side.side c.in_ok-side.ensures.takes;
+      claimed = λ _. removed_42 g.E.Effect g.T.Time g.met.E.Effect.back g.met.T.Time.back laws (mean a.store.now) (mean c.find.new.store) (mean c.take_out.new.store) a.root (record { number = a.number; time = a.time; effect = c.no_change.result }) c.find.ensures.same.meaning c.requires c.in_ok-side.side c.in_ok-side.ensures.takes;
       named = struck_without (kinds g.E.Effect g.T.Time) laws a.number a.time (read_from g.E.Effect g.T.Time (mean a.store.now).cells a.root);
     }
 

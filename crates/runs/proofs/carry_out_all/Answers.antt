@@ -20,6 +20,4 @@ loop-call-preserved g c =
     (omega arith, omega (arith, pushed.len, inv.1), omega (arith, pushed.capacity, inv.2), rw pushed.items more)
 
 pub returns : goal.returns
-returns g c = record {
-  run = rw (take_all c.loop-call.call-index c.args.calls.now c.loop-call-test.false) at c.loop-call.invariant.3;
-}
+returns g c = rw (take_all c.loop-call.call-index c.args.calls.now c.loop-call-test.false) at c.loop-call.invariant.3

@@ -11,12 +11,12 @@ laws g = record { total = g.met.T.Time.total; transitive = g.met.T.Time.transiti
 
 pub returns-then-self-operation-clause-there : goal.returns-then-self-operation-clause-there
 returns-then-self-operation-clause-there g c =
-    let room = rw (← c.self.view_is) at c.requires.room in
+    let room = rw (← c.self.view_is) at c.requires in
     rw (← c.self.view_is) (missing_step g.E.Effect g.T.Time g.S.Store _ c.self.invariant room c.args.operation (missing_above g.E.Effect g.T.Time g.S.Store _ c.self.invariant c.args.operation c.if-self-operation.true))
 
 pub returns-in_default-clause-there : goal.returns-in_default-clause-there
 returns-in_default-clause-there g c =
-    let room = rw (← c.self.view_is) at c.requires.room in
+    let room = rw (← c.self.view_is) at c.requires in
     let entered = ap (λ row. row.entered) (sym c.row_at.ensures) ∙ c.in_default.is in
     rw (← c.self.view_is) (missing_step g.E.Effect g.T.Time g.S.Store _ c.self.invariant room c.args.operation (missing_unentered g.E.Effect g.T.Time g.S.Store _ c.self.invariant c.args.operation c.row_at.result entered))
 
@@ -28,7 +28,7 @@ returns-clause-there g c =
     let n = c.args.operation in
     let time = c.in-Some.time in
     let there = c.in_ok-there.there in
-    let room = rw (← c.self.view_is) at c.requires.room in
+    let room = rw (← c.self.view_is) at c.requires in
     let same = shown_over g.E.Effect g.T.Time g.S.Store _ c.find.new.store c.find.ensures.same in
     let entered = ap (λ row. row.entered) (sym c.row_at.ensures) ∙ c.in-Some.is in
     let timed = newest_timed g.E.Effect g.T.Time g.S.Store _ c.self.invariant n time c.row_at.result entered in
@@ -40,7 +40,7 @@ pub returns-clause-timed : goal.returns-clause-timed
 returns-clause-timed g c =
     let n = c.args.operation in
     let time = c.in-Some.time in
-    let room = rw (← c.self.view_is) at c.requires.room in
+    let room = rw (← c.self.view_is) at c.requires in
     let same = shown_over g.E.Effect g.T.Time g.S.Store _ c.find.new.store c.find.ensures.same in
     let entered = ap (λ row. row.entered) (sym c.row_at.ensures) ∙ c.in-Some.is in
     let timed = newest_timed g.E.Effect g.T.Time g.S.Store _ c.self.invariant n time c.row_at.result entered in
