@@ -34,7 +34,8 @@ fn line_of(bytes: &[u8]) -> Line
 impl Line {
     // The digits, without the newline.
     pub fn digits(&self) -> &[u8]
-        ensures { result.now ≡ self.now }
+        ensures digits { result.now ≡ self.now }
+        ensures short { length result.now ≤ 64 }
     {
         let text = self.as_slice();
         &text[0..text.len() - 1]
@@ -42,7 +43,8 @@ impl Line {
 
     // The digits and the newline.
     pub fn as_slice(&self) -> &[u8]
-        ensures { result.now ≡ self.now ++ 10 ∷ [] }
+        ensures line { result.now ≡ self.now ++ 10 ∷ [] }
+        ensures short { length result.now ≤ 65 }
     {
         self.text.as_slice()
     }
