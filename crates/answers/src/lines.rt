@@ -86,7 +86,7 @@ fn answer_frame<E: Effect, T: Time>(code: u8, answer: Result<Answer<E::State, T>
     }
 }
 
-// The answer to a command of a code. Two answers to one command that differ in what a line tells have different lines.
+// The answer to a command of a code, a byte: a narrower type would ask more of callers. Two answers to one command that differ in what a line tells have different lines.
 pub fn answer_line<E: Effect, T: Time>(
     code: u8,
     answer: Result<Answer<E::State, T>, Refusal>,

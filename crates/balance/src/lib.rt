@@ -24,7 +24,8 @@ fn nest_right<E: Effect, T: Time, S: Store>(
     join(store, Parts { left, op, right })
 }
 
-// Joins the first two of three sides, and then that with the last.
+// Joins the first two of three sides, and then that with the last. These two, and the leaning ones below, are mirror images:
+// a parameter for the hand would turn sides over and back, in the code and in the proofs.
 fn nest_left<E: Effect, T: Time, S: Store>(
     store: &mut S,
     first: Parts<E, T>,

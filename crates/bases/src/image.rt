@@ -9,6 +9,7 @@ pub mod calls;
 
 // The bytes that were handed in, which begin with the layouts of its `len` cells.
 #[derive(Drop)]
+// A length beside the bytes, since they are fixed memory that is handed in, and given back whole.
 pub struct Image {
     bytes: Vec<u8>,
     len: u32,

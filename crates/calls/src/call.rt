@@ -1,6 +1,6 @@
 // What a ledger is asked.
 
-// The cells that a change claims before it puts any.
+// The cells that a change claims before it puts any: one amount a change, since each may come to claim another.
 pub const CELLS_TO_ENTER: u32 = 42;
 
 pub const CELLS_TO_WITHDRAW: u32 = 42;

@@ -18,7 +18,7 @@ pub enum Refusal {
 }
 
 impl Refusal {
-    // The refusal's number, whose first digit names the layer, and its place.
+    // The refusal's number, whose first digit names the layer, and its place: numbers, since a line of an answer has them.
     pub fn number_and_place(self) -> (u8, u32)
         ensures { result ≡ number_and_place self }
     {

@@ -7,7 +7,7 @@ pub use codec::{CELL_BYTES, decode, encode};
 use words::EffectWords;
 
 // An operation with the two sides of its tree. A side is the number of its root's cell, 0 where it is absent;
-// `height` and `total` are those of the tree whose root this cell is.
+// `height` and `total` are those of the tree whose root this cell is. Sides are numbers, and no boxes: cells lie in fixed memory.
 #[derive(Clone, Copy)]
 pub struct Cell {
     pub time: u64,

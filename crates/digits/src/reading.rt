@@ -8,7 +8,7 @@ use text::Flaw;
 // The most characters that a line may have.
 pub const LONGEST_LINE: usize = 64;
 
-// The value of a digit, or None for a character that is none.
+// The value of a digit, or None for a character that is none; by cases of characters, the form that was asked for.
 pub fn digit_value(c: char) -> Option<u8>
     ensures { result ≡ digit c }
 {

@@ -8,7 +8,7 @@ ghost use Rattle.words.specs.declared.StateWords.{StateWords};
 use words::{EffectWords, StateWords};
 
 // A kind of effect. The ghost members say what its effects and states are, the laws are what every kind owes,
-// and each method answers what a ghost member says.
+// and each method answers what a ghost member says. Words are made and read by methods and not by `From`, which has no such laws.
 pub trait Effect: Copy {
     type State: Copy;
 

@@ -4,7 +4,7 @@ ghost use Rattle.layers.specs.Lines.{no_lines, held, with_line};
 
 use cells::Cell;
 
-// The cell of a number, or none in an empty line.
+// The cell of a number, or none in an empty line. A struct in every line, and no Option of one: the form that was asked for.
 #[derive(Clone, Copy)]
 pub struct Line {
     pub number: u32,

@@ -22,7 +22,8 @@ pub struct Row<T> {
     count: u32,
 }
 
-// A ledger of effects E at times T over the store S, which it owns. Rows above the latest belief's mean nothing.
+// A ledger of effects E at times T over the store S, which it owns. Rows above the latest belief's mean nothing: the array and
+// its count are fixed memory, so that opening cannot fail.
 #[derive(Drop)]
 pub struct Ledger<E: Effect, T: Time, S: Store> {
     store: S,

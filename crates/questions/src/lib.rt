@@ -1,4 +1,5 @@
-// Questions to a tree of operations, each by one descent from its root.
+// Questions to a tree of operations, each by one descent from its root. A root and its store stay two arguments, with what
+// is required of both: a type of the two would borrow the store anew at each call, and its constructor would require the same.
 #![tactic(auto)]
 
 ghost use Rattle.std.specs.Prelude.{◌≡◌, Ok};

@@ -5,7 +5,7 @@ ghost use Rattle.status.specs.Events.{event_code, EventRead, rows, becomes, even
 use super::{Event, Status, Transitions, UnknownEvent};
 use std::array;
 
-// A row of eight codes for each event, in the order of the events.
+// A row of eight codes for each event, in the order of the events. Flat, and codes: the form that was asked for.
 #[rattlefmt::skip]
 const ROWS: [u8; 88] = [
     1, 1, 2, 3, 4, 5, 6, 7, // power on

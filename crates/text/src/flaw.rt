@@ -6,6 +6,7 @@ use std::fmt;
 
 // What is wrong with an input or a line, in the order in which it is looked for. Places and lengths count characters;
 // a flaw that is found after the code holds the code.
+// The code is a byte and no enum: a narrower type would ask more of whoever makes a flaw.
 #[derive(Clone, Copy)]
 pub enum Flaw {
     // The input is longer than an input may be.
@@ -27,7 +28,7 @@ pub enum Flaw {
 }
 
 impl Flaw {
-    // The refusal's number, whose first digit names the layer, and its place.
+    // The refusal's number, whose first digit names the layer, and its place: numbers, since a line of an answer has them.
     pub fn number_and_place(self) -> (u8, usize)
         ensures { result ≡ number_and_place self }
     {

@@ -10,7 +10,7 @@ pub use clock::Clock;
 pub use place::Place;
 
 // A kind of time. The ghost members say its order and its words, the laws are what every kind owes,
-// and each method answers what a ghost member says.
+// and each method answers what a ghost member says. Words are made and read by methods and not by `From`, which has no such laws.
 pub trait Time: Copy {
     // whether the first time is not after the second
     ghost upto: { Self → Self → Bool };

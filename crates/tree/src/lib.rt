@@ -12,7 +12,8 @@ use store::{Fault, Store};
 use times::Time;
 
 // What is known of a tree without reading its operations: the number of its root's cell, 0 for no tree,
-// its height, and all its effects composed.
+// its height, and all its effects composed. No Option around it: a cell writes 0 for an absent side, so that each cell
+// that is read or put would turn the one into the other.
 #[derive(Clone, Copy)]
 pub struct Side<E> {
     pub number: u32,

@@ -19,7 +19,8 @@ use times::Clock;
 const HIGHEST: u32 = 14;
 
 // The newest version: its root in a store that counts, its operations once more as a plain list, and the number of the
-// operation that is entered next.
+// operation that is entered next. That the store keeps it is a clause of each method: a model would say the fields over
+// again, for a struct that nothing else sees.
 #[derive(Drop)]
 pub struct Trial<C: Counts> {
     store: C,
