@@ -1,5 +1,5 @@
 // Writing the answer to a line.
-ghost use Rattle.std.specs.Prelude.{◌≡◌, ◌+◌, ◌≤◌, [], ◌∷◌, ◌++◌, length, Result};
+ghost use Rattle.std.specs.Prelude.{◌≡◌, ◌≤◌, [], ◌∷◌, length, Result};
 ghost use Rattle.big_endian.specs.Numbers.{bytes_of};
 ghost use Rattle.digits.specs.Hex.{encoded};
 ghost use Rattle.calls.specs.declared.answer.Answer.{Answer};

@@ -1,8 +1,7 @@
 -- What an image means, and what its bytes are.
-use Rattle.std.specs.Prelude.{◌≡◌, ℕ, zero, suc, ◌*◌, List, [], ◌∷◌, ◌++◌, length, drop, Some, None, vec_items, Option}
-use Rattle.std.specs.List.{flat_map}
+use Rattle.std.specs.Prelude.{◌≡◌, ℕ, ◌*◌, List, length, Some, None, vec_items, Option}
 use Rattle.big_endian.specs.Numbers.{overwritten}
-use Rattle.cells.specs.Layout.{cell_width, cell_of, layout}
+use Rattle.cells.specs.Layout.{cell_width, layout}
 use Rattle.cells.specs.declared.Cell.{Cell}
 use Rattle.store.specs.Meaning.{Meaning, fault_of}
 use Rattle.store.specs.declared.fault.Fault.{Fault}

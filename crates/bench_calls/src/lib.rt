@@ -1,7 +1,7 @@
 // A run of a ledger over a table, for callers outside Rattle: its calls come in and its answers go out as structs of numbers.
 #![tactic(auto)]
 
-ghost use Rattle.std.specs.Prelude.{◌≡◌, min, ◌++◌, map, length, IfOk, MatchResult};
+ghost use Rattle.std.specs.Prelude.{◌≡◌, min, map, length, IfOk, MatchResult};
 ghost use Rattle.counter.specs.contracts.kind.CounterEffect.TheImpl.{ghosts as counters};
 ghost use Rattle.settings.specs.contracts.kind.SettingsEffect.TheImpl.{ghosts as settings};
 ghost use Rattle.status.specs.contracts.kind.TransitionsEffect.TheImpl.{ghosts as statuses};

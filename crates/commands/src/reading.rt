@@ -161,8 +161,8 @@ fn command_on<E: Payload, T: Time>(line: &[u8], opened: bool) -> Result<Command<
     command_in::<E, T>(frame.as_slice(), opened)
 }
 
-// The command that a line asks for, where the record is opened or not, or why it asks for none. An accepted line
-// written again is the same line; the place of a refusal is at most 64.
+// The command that a line asks for, where the record is opened or not, or why it asks for none: all that reading has to know
+// of a record is that one bool. An accepted line written again is the same line; the place of a refusal is at most 64.
 pub fn read<E: Payload, T: Time>(line: &[u8], opened: bool) -> Result<Command<E::Form, T>, Flaw>
     ensures command { result ≡ command (forms E.Payload.own T.Time) opened line.now }
     ensures again { (c : Command E.Form T) → result ≡ Ok c → written (forms E.Payload.own T.Time) c ≡ line.now }

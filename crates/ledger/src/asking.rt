@@ -2,8 +2,6 @@
 ghost use Rattle.std.specs.Prelude.{◌≡◌, Ok, MatchResult};
 ghost use Rattle.reference.specs.Beliefs.{kinds, state, latest};
 ghost use Rattle.calls.specs.Verdict.{state_of, latest_of, count_of};
-ghost use Rattle.questions.specs.Standing.{Standing};
-ghost use Rattle.tree.specs.Reading.{read_from};
 ghost use Rattle.ledger.specs.Shown.{shown};
 ghost use Rattle.ledger.specs.Asking.{RowOf, NoRow};
 

@@ -1,5 +1,5 @@
 // The payload of the status: an event, which stands for its transitions.
-ghost use Rattle.std.specs.Prelude.{◌≡◌, [], ◌∷◌};
+ghost use Rattle.std.specs.Prelude.{[], ◌∷◌};
 ghost use Rattle.status.specs.Events.{event_code, event_transitions};
 ghost use Rattle.payloads.specs.Events.{event_parsed};
 ghost use Rattle.payloads.specs.Happening.{event_again, event_exact};

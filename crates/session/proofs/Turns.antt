@@ -8,7 +8,7 @@ use Rattle.reference.specs.Beliefs.{kinds}
 use Rattle.calls.specs.declared.call.Call.{Call}
 use Rattle.text.specs.declared.reader.Item.{Item}
 use Rattle.text.specs.Cut as text
-use Rattle.text.specs.Cut.{part, joined_lines}
+use Rattle.text.specs.Cut.{part}
 use Rattle.text.specs.Seen.{held, Takes}
 use Rattle.digits.specs.declared.line.Line.{Line}
 use Rattle.commands.specs.Frames.{forms}

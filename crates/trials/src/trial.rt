@@ -1,7 +1,5 @@
 // Whole trials: many operations entered in one order of times, a third of them withdrawn, every version compared.
 ghost use Rattle.std.specs.Prelude.{◌≡◌, ◌+◌, ◌≤◌, IfOk};
-ghost use Rattle.counter.specs.contracts.kind.CounterEffect.TheImpl.{ghosts as counters};
-ghost use Rattle.times.specs.contracts.clock.kind.ClockTime.TheImpl.{ghosts as clocks};
 ghost use Rattle.trials.specs.Versions.{Newest};
 
 use super::compare::compare;

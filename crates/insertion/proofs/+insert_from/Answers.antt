@@ -1,5 +1,5 @@
 -- What each way through the descent makes of the whole tree.
-use Rattle.std.proofs.Common.{sym, refl, ◌∙◌}
+use Rattle.std.proofs.Common.{sym, ◌∙◌}
 use Rattle.order.proofs.Orders.{TimeLaws}
 use Rattle.tree.proofs.Makings.{grew_then, grew_after}
 use Rattle.insertion.proofs.Insertions.{insert_none, insert_right_stop, insert_left_stop, insert_right, insert_left}

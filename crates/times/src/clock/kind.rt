@@ -3,7 +3,7 @@ ghost use Rattle.std.specs.Prelude.{◌≡◌, ◌^◌, ◌<◌, Some};
 ghost use Rattle.times.specs.Clocks.{clock_of, clock_upto, clock_word};
 ghost use Rattle.times.specs.Orders.{clocks_tie};
 ghost use Rattle.times.specs.Words.{clock_back, clock_from};
-ghost use Rattle.std.proofs.Common.{rules, arith};
+ghost use Rattle.std.proofs.Common.{rules};
 
 use super::Clock;
 use crate::Time;

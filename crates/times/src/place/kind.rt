@@ -3,7 +3,7 @@ ghost use Rattle.std.specs.Prelude.{◌≡◌, Some};
 ghost use Rattle.times.specs.Places.{place_upto, place_word, place_read};
 ghost use Rattle.times.specs.Orders.{places_tie, places_follow};
 ghost use Rattle.times.specs.Words.{place_small, place_back, place_from};
-ghost use Rattle.std.proofs.Common.{rules, arith};
+ghost use Rattle.std.proofs.Common.{rules};
 
 use super::Place;
 use crate::Time;

@@ -1,6 +1,4 @@
 -- The row of the latest belief reads as that belief.
-use Rattle.std.proofs.Common.{sym, ap, ◌∙◌, arith}
-use Rattle.reference.specs.Beliefs.{count}
 use Rattle.ledger.proofs.Entries.{newest_is}
 use Rattle.ledger.proofs.Ledger.newest_row.Goals as goal
 

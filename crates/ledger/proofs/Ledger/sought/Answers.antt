@@ -1,5 +1,5 @@
 -- Whether an operation is there, by the row of its number and the tree.
-use Rattle.std.proofs.Common.{◌≡◌, None, Some, sym, ap, ◌∙◌}
+use Rattle.std.proofs.Common.{sym, ap, ◌∙◌}
 use Rattle.order.proofs.Orders.{TimeLaws}
 use Rattle.ledger.proofs.Asked.{stands_over, shown_over}
 use Rattle.ledger.proofs.Seeking.{missing_above, missing_unentered, missing_step, newest_timed, newest_has, found_told, found_timed}

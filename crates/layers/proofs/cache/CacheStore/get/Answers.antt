@@ -1,7 +1,7 @@
 -- A cell that the lines hold is there; one that was got from below is there too, and its line holds it then.
 use Rattle.std.proofs.Common.{◌∙◌, rules}
 use Rattle.store.proofs.Finding.{got_there}
-use Rattle.layers.proofs.Caching.{faithful_same, faithful_fill, miss_fills, hit_there}
+use Rattle.layers.proofs.Caching.{miss_fills, hit_there}
 use Rattle.layers.proofs.cache.CacheStore.get.Goals as goal
 
 pub returns-in-Some : goal.returns-in-Some
