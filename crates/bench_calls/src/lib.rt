@@ -125,7 +125,8 @@ fn write_replies<E: Effect, T: Time>(
     places
 }
 
-// Carries out the calls over a new table of so many cells, unless memory is wanting.
+// Carries out the calls over a new table of so many cells, unless memory is wanting. The arguments are those of the exports,
+// which the C interface needs apart.
 fn try_to_answer<E: Effect>(
     heap: Global,
     capacity: u32,

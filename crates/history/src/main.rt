@@ -15,10 +15,10 @@ fn clock(seconds: u64) -> anyhow::Result<Clock> {
     Clock::new(seconds).context("the clock does not go so far")
 }
 
-// The entry of values that were fitted.
-fn fit(seconds: u64, mask: u8, values: Setup) -> anyhow::Result<Call<Settings, Clock>> {
+// The entry of what was fitted: batch, nozzle, plate and profile, each where it is new.
+fn fit(seconds: u64, fields: [Option<u16>; 4]) -> anyhow::Result<Call<Settings, Clock>> {
     let time = clock(seconds)?;
-    let effect = Settings::new(mask, values).context("a value is not masked")?;
+    let effect = Settings::from(fields);
     Ok(Call::Enter { time, effect })
 }
 
@@ -61,9 +61,9 @@ fn tell(rt: &HostRuntime, steps: &[(&str, Call<Settings, Clock>)]) -> anyhow::Re
 }
 
 fn main(rt: HostRuntime) -> anyhow::Result<()> {
-    let first = fit(10, 0x05, Setup::new(7, 0, 12, 0))?;
-    let second = fit(40, 0x01, Setup::new(9, 0, 0, 0))?;
-    let late = fit(20, 0x04, Setup::new(0, 0, 15, 0))?;
+    let first = fit(10, [Some(7), None, Some(12), None])?;
+    let second = fit(40, [Some(9), None, None, None])?;
+    let late = fit(20, [None, None, Some(15), None])?;
     let withdrawal = Call::Withdraw { operation: 2 };
     let time = clock(50)?;
     let set_up = |belief| Call::State { belief, time };

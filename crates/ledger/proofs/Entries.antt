@@ -1,5 +1,5 @@
 -- An entry, from what its insertion made.
-use Rattle.std.proofs.Common.{◌≡◌, ℕ, ◌+◌, ◌<◌, ◌≤◌, length, get_or, Some, None, Ok, Option, Result, sym, refl, ap, ◌∙◌, subst, arith}
+use Rattle.std.proofs.Common.{◌≡◌, ℕ, ◌+◌, ◌<◌, ◌≤◌, length, get_or, Some, None, Ok, Err, Option, Result, sym, refl, ap, ◌∙◌, subst, arith}
 use Rattle.effects.specs.declared.Effect as effect
 use Rattle.times.specs.declared.Time as time
 use Rattle.store.specs.declared.Store as store
@@ -13,17 +13,17 @@ use Rattle.order.specs.Order.{Below}
 use Rattle.questions.specs.Standing.{Standing}
 use Rattle.insertion.specs.Inserting.{Inserted}
 use Rattle.tree.specs.Reading.{read_from}
-use Rattle.tree.proofs.Keeping.{same_answer}
+use Rattle.tree.proofs.Keeping.{refused, same_answer}
 use Rattle.law.proofs.Sorting.{length_entered}
 use Rattle.ledger.specs.declared.Row.{Row}
 use Rattle.ledger.specs.Accounts.{Account}
 use Rattle.ledger.specs.Shown.{RowStands, shown, Stands}
-use Rattle.ledger.specs.Changing.{Newest, Next, Put}
+use Rattle.ledger.specs.Changing.{Newest, Ready, Next, Put}
 use Rattle.ledger.proofs.Lasting.{Entered}
 use Rattle.ledger.proofs.NewRows.{entry_stands}
 use Rattle.ledger.proofs.Showing.{latest_at, entry_verdict}
 use Rattle.ledger.proofs.Asked.{over}
-use Rattle.ledger.proofs.Putting.{cells_put}
+use Rattle.ledger.proofs.Putting.{stands_put, cells_put}
 use Rattle.ledger.proofs.Empty.{empty}
 
 pub claim_none : (m : Meaning) (n : ℕ) → claimed m n ≡ Ok tt → fault_of m n ≡ None
@@ -56,12 +56,7 @@ module _ {E St T S : Type 0} (e : effect.Ghosts E St) (t : time.Ghosts T) (s : s
   newest_few = omega (arith, latest_row.counted, latest_row.few, ap count (newest_at empty))
 
 module _ {E St T S : Type 0} (e : effect.Ghosts E St) (t : time.Ghosts T) (s : store.Ghosts S) (effects_back : (f : E) → e.reads (e.words f) ≡ Some f) (times_back : (a : T) → t.reads (t.word a) ≡ Some a) (l : Account T S) (h : Stands e t s l) (room : l.latest < 1023) where
-  -- a claim that was accepted lets the insertion through
-  pub entry_made : (root : ℕ) (n : Meaning) (op : Operation E T) (got : Result ℕ Fault) → claimed (s.meaning l.store) 42 ≡ Ok tt → read_from e t (s.meaning l.store).cells root ≡ latest_belief (shown e t s l).beliefs →
-      (fault_of (s.meaning l.store) 42 ≡ None → length (read_from e t (s.meaning l.store).cells root) ≤ 1023 → Inserted e t (s.meaning l.store) n root op got 42) → Inserted e t (s.meaning l.store) n root op got 42
-  entry_made root n op got claim newest claimed_made = claimed_made (claim_none (s.meaning l.store) 42 claim) (omega (arith, newest_few e t s l h, ap count newest))
-
-  pub entry_put : (at : T) (effect : E) (root : ℕ) (n : S) (got : Result ℕ Fault) (new_root : ℕ) → claimed (s.meaning l.store) 42 ≡ Ok tt → read_from e t (s.meaning l.store).cells root ≡ latest_belief (shown e t s l).beliefs → Inserted e t (s.meaning l.store) (s.meaning n) root (record { number = l.latest + 1; time = at; effect = effect }) got 42 → got ≡ Ok new_root →
+  entry_put : (at : T) (effect : E) (root : ℕ) (n : S) (got : Result ℕ Fault) (new_root : ℕ) → claimed (s.meaning l.store) 42 ≡ Ok tt → read_from e t (s.meaning l.store).cells root ≡ latest_belief (shown e t s l).beliefs → Inserted e t (s.meaning l.store) (s.meaning n) root (record { number = l.latest + 1; time = at; effect = effect }) got 42 → got ≡ Ok new_root →
       Put e t s (shown e t s l) (Enter at effect) (over e t s l n) new_root (Some at) × (count (read_from e t (s.meaning n).cells new_root) ≡ count (latest_belief (shown e t s l).beliefs) + 1)
   entry_put at effect root n got new_root claim newest made is =
       let m = s.meaning l.store in
@@ -80,3 +75,22 @@ module _ {E St T S : Type 0} (e : effect.Ghosts E St) (t : time.Ghosts T) (s : s
             (omega (arith, counts, newest_few e t s l h)) op refl entered_is (ap (read_from e t (s.meaning n).cells) root_is ∙ reads);
       } in
       (cells_put e t s effects_back times_back l h n made.new made.gained (Enter at effect) (entered (kinds e t) op old) new_root (Some at) verdict_is made.few reads next, counts)
+
+-- An entry that may put its cells, and what its insertion ensures where the claim was accepted.
+module _ {E St T S : Type 0} (e : effect.Ghosts E St) (t : time.Ghosts T) (s : store.Ghosts S) (effects_back : (f : E) → e.reads (e.words f) ≡ Some f) (times_back : (a : T) → t.reads (t.word a) ≡ Some a)
+    (l : Account T S) (h : Stands e t s l) (row : Row T) (at : T) (effect : E) (ready : Ready e t s l (Enter at effect) row) (n : S) (got : Result ℕ Fault)
+    (claimed_made : fault_of (s.meaning l.store) 42 ≡ None → length (read_from e t (s.meaning l.store).cells row.root) ≤ 1023 → Inserted e t (s.meaning l.store) (s.meaning n) row.root (record { number = l.latest + 1; time = at; effect = effect }) got 42) where
+  made : Inserted e t (s.meaning l.store) (s.meaning n) row.root (record { number = l.latest + 1; time = at; effect = effect }) got 42
+  made =
+      let room = ready.room in
+      claimed_made (claim_none (s.meaning l.store) 42 ready.granted) (omega (arith, newest_few e t s l h, ap count ready.newest.reads))
+
+  pub entry_stays : Stands e t s (over e t s l n)
+  entry_stays = stands_put e t s effects_back times_back l h n made.new made.gained
+
+  -- it is not refused
+  pub entry_goes : {P : Type 0} (f : Fault) → got ≡ Err f → P
+  entry_goes f is = refused f made.new_root (sym is ∙ made.is)
+
+  pub entry_puts : (new_root : ℕ) → got ≡ Ok new_root → Put e t s (shown e t s l) (Enter at effect) (over e t s l n) new_root (Some at) × (count (read_from e t (s.meaning n).cells new_root) ≡ count (latest_belief (shown e t s l).beliefs) + 1)
+  entry_puts new_root is = entry_put e t s effects_back times_back l h ready.room at effect row.root n got new_root ready.granted ready.newest.reads made is

@@ -1,12 +1,13 @@
 -- What the parts of a change hand on to each other.
-use Rattle.std.specs.Prelude.{◌≡◌, ℕ, ◌+◌, ◌-◌, ◌≤◌, [], ◌∷◌, ◌++◌, length, Ok, Option, slice_set}
+use Rattle.std.specs.Prelude.{◌≡◌, ℕ, ◌+◌, ◌-◌, ◌<◌, ◌≤◌, [], ◌∷◌, ◌++◌, length, Ok, Option, slice_set}
 use Rattle.effects.specs.declared.Effect as effect
 use Rattle.times.specs.declared.Time as time
 use Rattle.store.specs.declared.Store as store
 use Rattle.reference.specs.Beliefs.{kinds, count}
 use Rattle.calls.specs.declared.call.Call.{Call}
 use Rattle.calls.specs.declared.answer.Answer.TheVariants.{Changed}
-use Rattle.calls.specs.Verdict.{latest_belief}
+use Rattle.store.specs.Meaning.{claimed}
+use Rattle.calls.specs.Verdict.{latest_belief, claim_of}
 use Rattle.questions.specs.Standing.{Standing}
 use Rattle.tree.specs.Reading.{read_from}
 use Rattle.law.specs.Runs.{View, Step}
@@ -23,6 +24,12 @@ module _ {E St T : Type 0} (e : effect.Ghosts E St) (t : time.Ghosts T) where
     pub few : row.count ≤ 1023
 
   module _ {S : Type 0} (s : store.Ghosts S) where
+    -- The change c may put its cells into l: there may be one belief more, its claim was accepted, and the row is that of the latest belief.
+    pub record Ready (l : Account T S) (c : Call E T) (row : Row T) : Type 0 where
+      pub room : l.latest < 1023
+      pub granted : claimed (s.meaning l.store) (claim_of c) ≡ Ok tt
+      pub newest : Newest (shown e t s l) row
+
     -- As the next row of l stands every row of this root and of this time, with the count of the root's operations.
     pub record Next (l : Account T S) (root : ℕ) (entered : Option T) : Type 0 where
       pub stands : (row : Row T) → row.root ≡ root → row.entered ≡ entered → row.count ≡ count (read_from e t (s.meaning l.store).cells root) → RowStands e t (s.meaning l.store).cells (slice_set l.rows (l.latest + 1) row) (l.latest + 1) row

@@ -1,5 +1,5 @@
-// What both changes are made of. That a ledger is not full stays a premise of each: it is true during a change, and not of
-// every ledger.
+// What both changes are made of. That a ledger is not full stays a premise of each part: a guard that knows it would borrow
+// the ledger and hand its calls on, one by one, and is no plainer.
 ghost use Rattle.std.specs.Prelude.{◌≡◌, ℕ, ◌+◌, ◌<◌, ◌≤◌, true, [], ◌∷◌, ◌++◌, length, take, IfErr, Ok, Err, OnOk};
 ghost use Rattle.store.specs.Meaning.{claimed};
 ghost use Rattle.reference.specs.Beliefs.{kinds, count};

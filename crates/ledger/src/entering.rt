@@ -9,7 +9,7 @@ ghost use Rattle.law.specs.Runs.{Step};
 ghost use Rattle.questions.specs.Standing.{Standing};
 ghost use Rattle.tree.specs.Reading.{read_from};
 ghost use Rattle.ledger.specs.Shown.{shown};
-ghost use Rattle.ledger.specs.Changing.{Put};
+ghost use Rattle.ledger.specs.Changing.{Ready, Put};
 
 use crate::{Ledger, Row};
 use calls::Refusal;
@@ -21,12 +21,9 @@ use store::Store;
 use times::Time;
 
 impl<E: Effect, T: Time, S: Store> Ledger<E, T, S> {
-    // Puts the cells of an entry into the latest belief, whose root is given, and answers the root of the next.
-    fn plant(&mut self, root: u32, time: T, effect: E) -> Result<u32, Refusal>
-        requires room { self.old.latest < 1023 }
-        requires granted { claimed (S.Store.meaning self.old.store) (claim_of (Enter time effect)) ≡ Ok tt }
-        requires tree { Standing E.Effect T.Time (S.Store.meaning self.old.store).cells root }
-        requires newest { read_from E.Effect T.Time (S.Store.meaning self.old.store).cells root ≡ latest_belief (shown E.Effect T.Time S.Store self.old).beliefs }
+    // Puts the cells of an entry, which is ready for them, into the latest belief, whose row is given, and answers the root of the next.
+    fn plant(&mut self, row: Row<T>, time: T, effect: E) -> Result<u32, Refusal>
+        requires { Ready E.Effect T.Time S.Store self.old (Enter time effect) row }
         ensures latest { self.new.latest ≡ self.old.latest }
         ensures rows { self.new.rows ≡ self.old.rows }
         ensures put { MatchResult result (λ new. Put E.Effect T.Time S.Store (shown E.Effect T.Time S.Store self.old) (Enter time effect) self.new new (Some time)) (λ _. ⊥) }
@@ -37,7 +34,7 @@ impl<E: Effect, T: Time, S: Store> Ledger<E, T, S> {
             time,
             effect,
         };
-        Ok(insert::<E, T, S>(&mut self.store, root, operation)?)
+        Ok(insert::<E, T, S>(&mut self.store, row.root, operation)?)
     }
 
     // Enters an effect at a time, late or not.
@@ -52,7 +49,7 @@ impl<E: Effect, T: Time, S: Store> Ledger<E, T, S> {
         self.claim(CELLS_TO_ENTER)?;
         let before = self.cells();
         let row = self.newest_row();
-        let root = self.plant(row.root, time, effect)?;
+        let root = self.plant(row, time, effect)?;
         let cells = self.cells() - before;
         let belief = self.believe(Row {
             root,

@@ -13,7 +13,7 @@ pub mod opening;
 mod rows;
 pub mod withdrawing;
 
-// A belief: the number of its root's cell, 0 where it is empty, as cells write it, the time of the operation that its change
+// A belief: the number of its root's cell, 0 where it is empty, since a cell writes 0 for none, the time of the operation that its change
 // entered, if it entered one, and how many operations it has.
 #[derive(Clone, Copy)]
 pub struct Row<T> {

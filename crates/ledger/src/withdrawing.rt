@@ -11,7 +11,7 @@ ghost use Rattle.order.specs.Order.{Timed};
 ghost use Rattle.questions.specs.Standing.{Standing};
 ghost use Rattle.tree.specs.Reading.{read_from};
 ghost use Rattle.ledger.specs.Shown.{shown};
-ghost use Rattle.ledger.specs.Changing.{Put};
+ghost use Rattle.ledger.specs.Changing.{Ready, Put};
 
 use crate::rows::row_at;
 use crate::{Ledger, Row};
@@ -24,20 +24,17 @@ use store::Store;
 use times::Time;
 
 impl<E: Effect, T: Time, S: Store> Ledger<E, T, S> {
-    // Puts the cells of a withdrawal from the latest belief, whose root is given, and answers the root of the next.
-    fn uproot(&mut self, root: u32, operation: u32, time: T) -> Result<u32, Refusal>
-        requires room { self.old.latest < 1023 }
+    // Puts the cells of a withdrawal, which is ready for them, from the latest belief, whose row is given, and answers the root of the next.
+    fn uproot(&mut self, row: Row<T>, operation: u32, time: T) -> Result<u32, Refusal>
+        requires ready { Ready E.Effect T.Time S.Store self.old (Withdraw operation) row }
         requires there { has operation (latest_belief (shown E.Effect T.Time S.Store self.old).beliefs) ≡ true }
         requires timed { Timed operation time (latest_belief (shown E.Effect T.Time S.Store self.old).beliefs) }
-        requires granted { claimed (S.Store.meaning self.old.store) (claim_of {E = E} {T = T} (Withdraw operation)) ≡ Ok tt }
-        requires tree { Standing E.Effect T.Time (S.Store.meaning self.old.store).cells root }
-        requires newest { read_from E.Effect T.Time (S.Store.meaning self.old.store).cells root ≡ latest_belief (shown E.Effect T.Time S.Store self.old).beliefs }
         ensures latest { self.new.latest ≡ self.old.latest }
         ensures rows { self.new.rows ≡ self.old.rows }
         ensures put { MatchResult result (λ new. Put E.Effect T.Time S.Store (shown E.Effect T.Time S.Store self.old) (Withdraw operation) self.new new None) (λ _. ⊥) }
         ensures counted { MatchResult result (λ new. count (read_from E.Effect T.Time (S.Store.meaning self.new.store).cells new) + 1 ≡ count (latest_belief (shown E.Effect T.Time S.Store self.old).beliefs)) (λ _. ⊥) }
     {
-        let removed = remove::<E, T, S>(&mut self.store, root, operation, time)?;
+        let removed = remove::<E, T, S>(&mut self.store, row.root, operation, time)?;
         let Some(new) = removed else {
             return Err(Refusal::NoOperation(operation));
         };
@@ -77,7 +74,7 @@ impl<E: Effect, T: Time, S: Store> Ledger<E, T, S> {
         self.claim(CELLS_TO_WITHDRAW)?;
         let before = self.cells();
         let row = self.newest_row();
-        let root = self.uproot(row.root, operation, time)?;
+        let root = self.uproot(row, operation, time)?;
         let cells = self.cells() - before;
         let belief = self.believe(Row {
             root,

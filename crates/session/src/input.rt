@@ -20,7 +20,8 @@ use store::Store;
 use text::check_length;
 use times::{Clock, Place, Time};
 
-// Opens a record over a cache over its quota over a store, and answers the lines that are left.
+// Opens a record over a cache over its quota over a store, and answers the lines that are left. Opening, store and talk go
+// together in these three functions alone, and each of the three ends elsewhere.
 fn serve<E: Payload, T: Time, S: Store>(
     opening: Opening,
     store: S,

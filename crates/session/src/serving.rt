@@ -38,7 +38,8 @@ impl<E: Payload, T: Time, S: Store> Session<E, T, S> {
         ledger.close()
     }
 
-    // Carries out a call under the code of its frame, and answers the line of its reply.
+    // Carries out a call under the code of its frame, a byte as the answer has it, and answers the line of its reply. That a
+    // line is short is said of each answer: it is true of what was answered, and not of every line.
     fn call(&mut self, code: u8, call: Call<E, T>) -> Line
         ensures carried { Carried E.Effect T.Time S.Store code call (Some result) self.old.ledger self.new.ledger }
         ensures short { length (written (Some result)) ≤ 27 }

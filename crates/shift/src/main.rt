@@ -2,15 +2,20 @@
 // same states by one composed effect a kind.
 #![tactic(auto)]
 
-use anyhow::anyhow;
+use anyhow::{Context, anyhow};
 use cases::spool_left;
-use counter::Counter;
+use counter::{Counter, Level};
 use effects::{Effect, composition_agrees};
-use settings::{Settings, Setup};
+use settings::Settings;
 use status::{Event, Transitions};
 use std::alloc::{AllocError, Global};
 use std::fmt::Display;
 use std::io;
+
+// The grams of a level, and the hundredths of one more. No `Display`, which would have to pad what it writes.
+fn in_grams(level: Level) -> (u32, u32) {
+    (level.hundredths() / 100, level.hundredths() % 100)
+}
 
 // The effects of one kind during a shift, first to last, and the state that they lead to.
 #[derive(Drop)]
@@ -57,18 +62,13 @@ impl Shift {
     }
 
     fn material(&mut self, amount: i32, floor: u32, ceiling: u32) -> anyhow::Result<()> {
-        let Some(counter) = Counter::new(amount, floor, ceiling) else {
-            return Err(anyhow!("a counter is out of bounds"));
-        };
+        let counter = Counter::new(amount, floor, ceiling).context("a counter is out of bounds")?;
         self.material.enter(counter)?;
         Ok(())
     }
 
-    fn fit(&mut self, mask: u8, values: Setup) -> anyhow::Result<()> {
-        let Some(settings) = Settings::new(mask, values) else {
-            return Err(anyhow!("a value is not masked"));
-        };
-        self.fittings.enter(settings)?;
+    fn fit(&mut self, fields: [Option<u16>; 4]) -> anyhow::Result<()> {
+        self.fittings.enter(Settings::from(fields))?;
         Ok(())
     }
 
@@ -81,8 +81,7 @@ impl Shift {
 
     // The printer as a person reads it, behind what happened.
     fn print(&self, rt: &impl Print, what: impl Display + Drop) -> io::Result<()> {
-        let grams = self.material.state.hundredths() / 100;
-        let rest = self.material.state.hundredths() % 100;
+        let (grams, rest) = in_grams(self.material.state);
         let (batch, nozzle, plate, profile) = self.fittings.state.fields();
         let status = self.status.state;
         println!(rt;
@@ -100,7 +99,7 @@ impl Shift {
 
 fn morning(rt: &HostRuntime, shift: &mut Shift) -> anyhow::Result<()> {
     shift.event(rt, Event::PowerOn)?;
-    shift.fit(0x0f, Setup::new(7, 4, 12, 3))?;
+    shift.fit([Some(7), Some(4), Some(12), Some(3)])?;
     shift.print(rt, "fit batch 7, nozzle 4, plate 12, profile 3")?;
     shift.material(0, 100_000, 100_000)?;
     shift.print(rt, "new spool of 1000.00 g")?;
@@ -113,7 +112,7 @@ fn morning(rt: &HostRuntime, shift: &mut Shift) -> anyhow::Result<()> {
 
 fn afternoon(rt: &HostRuntime, shift: &mut Shift) -> anyhow::Result<()> {
     shift.event(rt, Event::Pause)?;
-    shift.fit(0x01, Setup::new(9, 0, 0, 0))?;
+    shift.fit([Some(9), None, None, None])?;
     shift.print(rt, "fit batch 9")?;
     shift.material(25_000, 0, 1_000_000)?;
     shift.print(rt, "refill of 250.00 g")?;
@@ -133,11 +132,8 @@ fn run(rt: &HostRuntime) -> anyhow::Result<()> {
         return Err(anyhow!("a composed effect leads to another state"));
     }
     println!(rt; "by one composed effect a kind: the same states")?;
-    let Some(left) = spool_left() else {
-        return Err(anyhow!("a counter is out of bounds"));
-    };
-    let grams = left.hundredths() / 100;
-    let rest = left.hundredths() % 100;
+    let left = spool_left().context("a counter is out of bounds")?;
+    let (grams, rest) = in_grams(left);
     println!(rt; "a spool of 1000.00 g less 300.00 g: {grams}.{rest:02} g")?;
     Ok(())
 }

@@ -53,7 +53,7 @@ pub(crate) fn compare<S: Store>(
     let (own, rest) = plain[before.count..].split_first().ok_or(Trouble::Differs)?;
     let after = compare(store, right, depth - 1, rest)?;
     let count = before.count + 1 + after.count;
-    same(own.number == op.number && own.time.seconds() == op.time.seconds())?;
+    same(own.number == op.number && own.time == op.time)?;
     same(own.effect.amount() == op.effect.amount())?;
     same(height == before.height.max(after.height).saturating_add(1))?;
     same(before.height.abs_diff(after.height) <= 1)?;

@@ -28,10 +28,7 @@ impl Plain {
     pub(crate) fn until(&self, at: Clock) -> &[Operation<Counter, Clock>]
         ensures { length result.now ≤ vec_len self.now.ops }
     {
-        let later = self
-            .ops
-            .iter()
-            .position(|op| at.seconds() < op.time.seconds());
+        let later = self.ops.iter().position(|op| at < op.time);
         let end = later.unwrap_or(self.ops.len());
         &self.ops.as_slice()[..end]
     }
