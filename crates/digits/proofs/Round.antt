@@ -119,6 +119,10 @@ accepted_short cs bs e = (passed cs (ok_both (checked cs) (paired cs) bs e).0).s
 pub half_read : (cs bs : List ℕ) → Ok bs ≡ decoded cs → length cs ≡ 2 * length bs
 half_read cs bs e = sym (ap length (written_read cs bs e)) ∙ length_encoded bs
 
+-- what is read of digits is at most 32 bytes
+pub read_short : (cs bs : List ℕ) → Ok bs ≡ decoded cs → length bs ≤ 32
+read_short cs bs e = let half = half_read cs bs e in let short = accepted_short cs bs e in omega arith
+
 -- typed bytes are below 256
 pub under_typed : (bs : List ℕ) → ((i : ℕ) → Fits w8 (get_or bs i 0)) → AllBelowBase 256 bs
 under_typed bs h = All-from_get_or (λ b. b < 256) bs 0 (λ i _. let fits = h i in omega arith)

@@ -1,5 +1,5 @@
 // Reading the digits of a line.
-ghost use Rattle.std.specs.Prelude.{◌≡◌, ℕ, ◌+◌, ◌*◌, ◌<◌, List, Ok};
+ghost use Rattle.std.specs.Prelude.{◌≡◌, ℕ, ◌+◌, ◌*◌, ◌<◌, ◌≤◌, List, length, Ok, IfOk};
 ghost use Rattle.digits.specs.Hex.{digit, value, no_digit, checked, decoded, encoded};
 
 use crate::line::Bytes;
@@ -63,6 +63,7 @@ fn byte_of(high: u8, low: u8) -> u8
 pub fn decode(text: &[u8]) -> Result<Bytes, Flaw>
     ensures bytes { result ≡ decoded text.now }
     ensures again { (b : List ℕ) → result ≡ Ok b → encoded b ≡ text.now }
+    ensures short { IfOk result (λ b. length b ≤ 32) }
 {
     check(text)?;
     let (pairs, _) = text.as_chunks::<2>();

@@ -3,7 +3,6 @@ ghost use Rattle.std.specs.Prelude.{◌≡◌, ◌+◌, ◌<◌, ◌≤◌, [], 
 ghost use Rattle.digits.specs.Hex.{digit_of, decoded, encoded};
 
 use crate::line::{Bytes, Line};
-use arrayvec::ArrayVec;
 
 // The digit of a value.
 fn digit(value: u8) -> u8
@@ -21,24 +20,40 @@ fn line_of(bytes: &[u8]) -> Line
     requires { length bytes.now ≤ 32 }
     ensures digits { result ≡ encoded bytes.now }
     ensures back { decoded result ≡ Ok bytes.now }
+    ensures short { length result ≤ 64 }
 {
-    let mut text = ArrayVec::new();
+    let mut line = Line::new();
     for byte in bytes {
-        text.push(digit(*byte / 16));
-        text.push(digit(*byte % 16));
+        line.push(digit(*byte / 16));
+        line.push(digit(*byte % 16));
     }
-    text.push(b'\n');
-    Line { text }
+    line
 }
 
 impl Line {
+    // No digits yet.
+    fn new() -> Line
+        ensures { result ≡ [] }
+    {
+        let text = [b'\n'; 65];
+        Line { text, len: 0 }
+    }
+
+    // One digit more, where there is room.
+    fn push(&mut self, digit: u8)
+        requires { length self.old < 64 }
+        ensures { self.new ≡ self.old ++ digit ∷ [] }
+    {
+        self.text[self.len] = digit;
+        self.len += 1;
+    }
+
     // The digits, without the newline.
     pub fn digits(&self) -> &[u8]
         ensures digits { result.now ≡ self.now }
         ensures short { length result.now ≤ 64 }
     {
-        let text = self.as_slice();
-        &text[0..text.len() - 1]
+        &self.text[0..self.len]
     }
 
     // The digits and the newline.
@@ -46,7 +61,7 @@ impl Line {
         ensures line { result.now ≡ self.now ++ 10 ∷ [] }
         ensures short { length result.now ≤ 65 }
     {
-        self.text.as_slice()
+        &self.text[0..self.len + 1]
     }
 }
 
@@ -56,7 +71,8 @@ impl Bytes {
         ensures { result ≡ [] }
     {
         Bytes {
-            bytes: ArrayVec::new(),
+            bytes: [0; 32],
+            len: 0,
         }
     }
 
@@ -64,7 +80,7 @@ impl Bytes {
         ensures bytes { result.now ≡ self.now }
         ensures short { length result.now ≤ 32 }
     {
-        self.bytes.as_slice()
+        &self.bytes[0..self.len]
     }
 
     // One byte more, where there is room.
@@ -72,7 +88,8 @@ impl Bytes {
         requires { length self.old < 32 }
         ensures { self.new ≡ self.old ++ byte ∷ [] }
     {
-        self.bytes.push(byte);
+        self.bytes[self.len] = byte;
+        self.len += 1;
     }
 
     // More bytes, where there is room.
@@ -80,13 +97,16 @@ impl Bytes {
         requires { length self.old + length more.now ≤ 32 }
         ensures { self.new ≡ self.old ++ more.now }
     {
-        self.bytes.try_extend_from_slice(more).unwrap();
+        for byte in more {
+            self.push(*byte);
+        }
     }
 
     // The bytes as a line, which is read as the bytes again.
     pub fn to_line(&self) -> Line
         ensures digits { result ≡ encoded self.now }
         ensures back { decoded result ≡ Ok self.now }
+        ensures short { length result ≤ 64 }
     {
         line_of(self.as_slice())
     }

@@ -4,4 +4,4 @@ use Rattle.digits.specs.Hex.{encoded}
 use Rattle.digits.proofs.writing.line_of.Given as goal
 
 abbrev pub invariant-loop-byte : goal.invariant-loop-byte
-invariant-loop-byte l = (length l.text.items ≡ 2 * l.byte-index) × (l.text.items ++ encoded (drop l.byte-index l.bytes) ≡ encoded l.bytes)
+invariant-loop-byte l = (length l.line ≡ 2 * l.byte-index) × (l.line ++ encoded (drop l.byte-index l.bytes) ≡ encoded l.bytes)
