@@ -12,7 +12,7 @@ pub record Holds (m n b len : ℕ) (array : List ℕ) : Type 0 where
   pub rest : array ≡ padded n b (take len array)
 
 -- the array is n bytes long
-pub length_array : {m n b len : ℕ} {array : List ℕ} → m ≤ n → Holds m n b len array → length array ≡ n
+length_array : {m n b len : ℕ} {array : List ℕ} → m ≤ n → Holds m n b len array → length array ≡ n
 length_array {m} {n} {b} {len} {array} room h =
     let held = take len array in
     let whole = ap length h.rest ∙ length-append held (replicate (n - length held) b) in
