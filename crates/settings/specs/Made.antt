@@ -88,6 +88,10 @@ settings_back s =
     (both_true (both_true (both_true (both_true (lt-ltb (mask_of s) 16 (mask_small s)) b.0) n.0) p.0) q.0)
     ∙ ap Some (same_settings _ s b.1 n.1 p.1 q.1)
 
+-- settings are the values that their own mask has among their own values
+pub chosen_back : (s : Settings) → chosen (mask_of s) (values_of s) ≡ s
+chosen_back s = let made = cond_some (proper (mask_of s) (values_of s)) (chosen (mask_of s) (values_of s)) s (settings_back s) in made.1
+
 pub settings_from : (mask : ℕ) (values : Setup) (s : Settings) → settings_of mask values ≡ Some s → (mask_of s ≡ mask) × (values_of s ≡ values)
 settings_from mask values s is =
     let made = cond_some (proper mask values) (chosen mask values) s is in
