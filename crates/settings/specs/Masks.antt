@@ -52,7 +52,7 @@ chosen mask values = record {
 abbrev pub proper : ℕ → Setup → Bool
 proper mask values = nat_lt mask 16 && bare (masked mask 0) values.batch && bare (masked mask 1) values.nozzle && bare (masked mask 2) values.plate && bare (masked mask 3) values.profile
 
--- the same as four premises: what all settings keep
+-- `proper` as a proposition: what all settings keep
 abbrev pub Proper : ℕ → Setup → Type 0
 Proper mask values = (mask < 16) × (masked mask 0 ≡ false → values.batch ≡ 0) × (masked mask 1 ≡ false → values.nozzle ≡ 0) × (masked mask 2 ≡ false → values.plate ≡ 0) × (masked mask 3 ≡ false → values.profile ≡ 0)
 
