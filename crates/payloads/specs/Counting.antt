@@ -1,8 +1,9 @@
 -- A counter's bytes are read as it, whatever follows them, and only they are.
 use Rattle.std.specs.Prelude.{◌≡◌, ℕ, ◌^◌, ◌<◌, ◌≤◌, List, ◌++◌, length, take, drop, ℤ, pos, negsuc, ◌≤ℤ◌, Some, nat_le, refl}
-use Rattle.std.proofs.Common.{sym, ap, ◌∙◌, append_assoc, arith, le→leb, leb→le, length-drop, take-append-drop}
+use Rattle.std.proofs.Common.{sym, ap, ◌∙◌, append_assoc, arith, le→leb, leb→le, of_z, to_z, length-drop, take-append-drop}
 use Rattle.std.specs.Int.Signed.{mag}
 use Rattle.std.proofs.lemmas.Int.{ints}
+use Rattle.std.specs.Int.{w32}
 use Rattle.std.specs.Int.Digits.{AllBelowBase}
 use Rattle.std.proofs.ByRecursion.{All-drop}
 use Rattle.words.proofs.Giving.{given_passed, given_some}
@@ -19,6 +20,11 @@ use Rattle.payloads.specs.Fronts.{front_back, front_below, begins}
 small_amount : (z : ℤ) → negsuc 999999 ≤ℤ z → z ≤ℤ pos 1000000 → mag z < 2 ^ 31
 small_amount (pos n) low high = omega (arith, ints)
 small_amount (negsuc n) low high = omega (arith, ints)
+
+-- what the cast of an amount gives
+pub amount_bits : (z : ℤ) → negsuc 999999 ≤ℤ z → z ≤ℤ pos 1000000 → of_z w32 (to_z w32 (of_z w32 z)) ≡ twos_complement z
+amount_bits (pos n) low high = omega (arith, ints)
+amount_bits (negsuc n) low high = omega (arith, ints)
 
 pub counter_again : (c : Counter) (rest : List ℕ) → counter_parsed (counter_layout c ++ rest) ≡ Some c
 counter_again c rest =

@@ -1,24 +1,25 @@
 -- Settings' bytes are read as they are, whatever follows them, and only they are.
 use Rattle.std.specs.Prelude.{◌≡◌, ℕ, zero, suc, ◌+◌, ◌*◌, ◌^◌, ◌<◌, ◌≤◌, Bool, true, false, T, List, [], ◌∷◌, ◌++◌, length, take, drop, Some, None, Option, is_some, IfSome, nat_le, refl}
+use Rattle.std.specs.Bool.{then_some}
 use Rattle.std.specs.Option.{unwrap_or}
 use Rattle.std.specs.List.{flat_map}
 use Rattle.std.proofs.lemmas.Bool.{true≢false}
-use Rattle.std.proofs.Common.{sym, ap, ◌∙◌, append_assoc, arith, le→leb, leb→le, length-drop, length-append, take-append-drop}
+use Rattle.std.proofs.Common.{sym, ap, ◌∙◌, append_assoc, append-nil, arith, le→leb, leb→le, length-drop, length-append, take-append-drop}
 use Rattle.std.specs.Int.Bits.{bit_and}
 use Rattle.std.specs.Int.Count.{ones}
 use Rattle.std.specs.Int.Digits.{AllBelowBase}
 use Rattle.std.proofs.ByRecursion.{All-drop}
 use Rattle.words.specs.Given.{given}
-use Rattle.words.proofs.Giving.{given_passed, given_failed, given_some, same_effect_words}
+use Rattle.words.proofs.Giving.{given_passed, given_failed, given_some}
 use Rattle.big_endian.specs.Numbers.{bytes_of}
 use Rattle.big_endian.proofs.Numbering.{worth_bytes}
 use Rattle.settings.specs.Overwriting.{fields_of}
-use Rattle.settings.specs.Masks.{masked, mask_of, values_of}
-use Rattle.settings.specs.Made.{mask_small, mask_has, mask_from, there_if}
-use Rattle.settings.specs.Packing.{setup_word, settings_words, settings_read}
+use Rattle.settings.specs.Masks.{masked, mask_of, values_of, settings_of}
+use Rattle.settings.specs.Made.{mask_small, mask_has, mask_from, settings_back, chosen_back, there_if}
+use Rattle.settings.specs.Packing.{setup_word, settings_read}
 use Rattle.settings.specs.declared.Setup.{Setup}
 use Rattle.settings.specs.declared.Settings.{Settings}
-use Rattle.settings.specs.Words.{setup_apart, settings_reads_back, settings_reads_only, reads_none}
+use Rattle.settings.specs.Words.{setup_apart, read_is, settings_reads_back, settings_reads_only, reads_none}
 use Rattle.payloads.specs.Setups.{width, field_bytes, field_in, value, after, settings_layout, settings_size, values_word, settings_in, settings_parsed}
 use Rattle.payloads.specs.Fronts.{front_back, front_below, begins}
 
@@ -80,11 +81,15 @@ under_after false bs u = u
 
 -- ---- all fields
 
-four_joined : (a b c d e : List ℕ) → (a ++ (b ++ (c ++ (d ++ [])))) ++ e ≡ a ++ (b ++ (c ++ (d ++ e)))
+four_joined : (a b c d e : List ℕ) → (a ++ (b ++ (c ++ d))) ++ e ≡ a ++ (b ++ (c ++ (d ++ e)))
 four_joined a b c d e = simp append_assoc
 
+-- the same of the four parts as one list of lists lays them
+four_flat : (a b c d e : List ℕ) → (a ++ (b ++ (c ++ (d ++ [])))) ++ e ≡ a ++ (b ++ (c ++ (d ++ e)))
+four_flat a b c d e = simp append_assoc
+
 four_back : (a b c d x₀ x₁ x₂ x₃ x₄ : List ℕ) → a ++ x₁ ≡ x₀ → b ++ x₂ ≡ x₁ → c ++ x₃ ≡ x₂ → d ++ x₄ ≡ x₃ → (a ++ (b ++ (c ++ (d ++ [])))) ++ x₄ ≡ x₀
-four_back a b c d x₀ x₁ x₂ x₃ x₄ p q r s = four_joined a b c d x₄ ∙ ap (λ l. a ++ (b ++ (c ++ l))) s ∙ ap (λ l. a ++ (b ++ l)) r ∙ ap (λ l. a ++ l) q ∙ p
+four_back a b c d x₀ x₁ x₂ x₃ x₄ p q r s = four_flat a b c d x₄ ∙ ap (λ l. a ++ (b ++ (c ++ l))) s ∙ ap (λ l. a ++ (b ++ l)) r ∙ ap (λ l. a ++ l) q ∙ p
 
 length_layout : (s : Settings) → length (settings_layout s) ≡ 1 + widths_of (mask_of s)
 length_layout s =
@@ -138,7 +143,7 @@ settings_again s rest =
     let whole = length-append body rest in
     let l = length_layout s in
     let w = widths (mask_of s) (mask_small s) in
-    let joined = four_joined (field_bytes s.batch) (field_bytes s.nozzle) (field_bytes s.plate) (field_bytes s.profile) rest in
+    let joined = four_flat (field_bytes s.batch) (field_bytes s.nozzle) (field_bytes s.plate) (field_bytes s.profile) rest in
     given_passed (nat_le (2 * ones (bit_and (mask_of s) 15)) (length (body ++ rest))) _ (le→leb (2 * ones (bit_and (mask_of s) 15)) (length (body ++ rest)) (omega arith))
     ∙ ap (λ n. settings_read (record { first = mask_of s; second = n })) (ap (values_word (mask_of s)) joined ∙ values_again s rest) ∙ settings_reads_back s
 
@@ -195,12 +200,15 @@ too_short mask bs four short =
     let w = widths mask (omega arith) in
     sym (given_failed (nat_le (2 * ones (bit_and mask 15)) (length bs)) _ (λ p. let h = leb→le (2 * ones (bit_and mask 15)) (length bs) p in omega arith))
 
-pub settings_made : (mask : ℕ) (bs : List ℕ) (s : Settings) → mask ≤ 15 → widths_of mask ≤ length bs → mask_of s ≡ mask → setup_word (values_of s) ≡ values_word mask bs → Some s ≡ settings_in mask bs
-settings_made mask bs s four long same word =
+-- reading makes of a mask and the values at the start of bytes what `settings_of` makes of them
+pub settings_made : (mask : ℕ) (bs : List ℕ) (s : Setup) → mask ≤ 15 → widths_of mask ≤ length bs → setup_word s ≡ values_word mask bs → settings_of mask s ≡ settings_in mask bs
+settings_made mask bs s four long word =
     let w = widths mask (omega arith) in
-    let words = same_effect_words (settings_words s) (record { first = mask; second = values_word mask bs }) same word in
-    sym (settings_reads_back s) ∙ ap settings_read words
-    ∙ sym (given_passed (nat_le (2 * ones (bit_and mask 15)) (length bs)) _ (le→leb (2 * ones (bit_and mask 15)) (length bs) (omega arith)))
+    read_is mask (record { first = mask; second = values_word mask bs }) s refl word ∙ sym (given_passed (nat_le (2 * ones (bit_and mask 15)) (length bs)) _ (le→leb (2 * ones (bit_and mask 15)) (length bs) (omega arith)))
+
+-- so settings of that mask and these values are what is read
+pub settings_found : (mask : ℕ) (bs : List ℕ) (s : Settings) → mask ≤ 15 → widths_of mask ≤ length bs → mask_of s ≡ mask → setup_word (values_of s) ≡ values_word mask bs → Some s ≡ settings_in mask bs
+settings_found mask bs s four long same word = sym (settings_back s) ∙ ap (λ m. settings_of m (values_of s)) same ∙ settings_made mask bs (values_of s) four long word
 
 module _ (mask : ℕ) (bs : List ℕ) (four : mask ≤ 15) where
   pub short_at_0 : length bs < width (masked mask 0) → None ≡ settings_in mask bs
@@ -236,4 +244,49 @@ settings_whole mask bs r₁ r₂ r₃ r₄ f₀ f₁ f₂ f₃ s four p₀ p₁ 
     let same = mask_from mask s (omega arith) (ap is_some a₀ ∙ there_if m₀ _) (ap is_some a₁ ∙ there_if m₁ _) (ap is_some a₂ ∙ there_if m₂ _) (ap is_some a₃ ∙ there_if m₃ _) in
     let l₀ = p₀.2 in let l₁ = p₁.2 in let l₂ = p₂.2 in let l₃ = p₃.2 in
     let or_zero = λ (f : Option ℕ). unwrap_or f 0 in
-    settings_made mask bs s four (omega arith) same (four_worth (ap or_zero a₀) (ap or_zero a₁) (ap or_zero a₂) (ap or_zero a₃))
+    settings_found mask bs s four (omega arith) same (four_worth (ap or_zero a₀) (ap or_zero a₁) (ap or_zero a₂) (ap or_zero a₃))
+
+-- five parts appended one after the other
+appended_five : (e₀ e₁ e₂ e₃ e₄ e₅ : List ℕ) (m : ℕ) (f₀ f₁ f₂ f₃ : List ℕ) → e₁ ≡ e₀ ++ (m ∷ []) → e₂ ≡ e₁ ++ f₀ → e₃ ≡ e₂ ++ f₁ → e₄ ≡ e₃ ++ f₂ → e₅ ≡ e₄ ++ f₃ → e₅ ≡ e₀ ++ (m ∷ (f₀ ++ (f₁ ++ (f₂ ++ f₃))))
+appended_five e₀ e₁ e₂ e₃ e₄ e₅ m f₀ f₁ f₂ f₃ p q r s t =
+    t ∙ ap (λ l. l ++ f₃) (s ∙ ap (λ l. l ++ f₂) (r ∙ ap (λ l. l ++ f₁) (q ∙ ap (λ l. l ++ f₀) p)))
+    ∙ ap (λ l. ((l ++ f₁) ++ f₂) ++ f₃) (append_assoc e₀ (m ∷ []) f₀)
+    ∙ ap (λ l. (l ++ f₂) ++ f₃) (append_assoc e₀ (m ∷ f₀) f₁)
+    ∙ ap (λ l. l ++ f₃) (append_assoc e₀ (m ∷ (f₀ ++ f₁)) f₂)
+    ∙ append_assoc e₀ (m ∷ ((f₀ ++ f₁) ++ f₂)) f₃
+    ∙ ap (λ l. e₀ ++ (m ∷ l)) (append_assoc (f₀ ++ f₁) f₂ f₃ ∙ append_assoc f₀ f₁ (f₂ ++ f₃))
+
+-- equal masks and values are laid out alike
+same_laid : (m a b c d m' a' b' c' d' : ℕ) → m ≡ m' → a ≡ a' → b ≡ b' → c ≡ c' → d ≡ d' →
+    m ∷ (field_bytes (then_some (masked m 0) a) ++ (field_bytes (then_some (masked m 1) b) ++ (field_bytes (then_some (masked m 2) c) ++ field_bytes (then_some (masked m 3) d))))
+    ≡ m' ∷ (field_bytes (then_some (masked m' 0) a') ++ (field_bytes (then_some (masked m' 1) b') ++ (field_bytes (then_some (masked m' 2) c') ++ field_bytes (then_some (masked m' 3) d'))))
+same_laid m a b c d m' a' b' c' d' p q r s t =
+    let laid = λ (m a b c d : ℕ). m ∷ (field_bytes (then_some (masked m 0) a) ++ (field_bytes (then_some (masked m 1) b) ++ (field_bytes (then_some (masked m 2) c) ++ field_bytes (then_some (masked m 3) d)))) in
+    ap (λ x. laid x a b c d) p ∙ ap (λ x. laid m' x b c d) q ∙ ap (λ x. laid m' a' x c d) r ∙ ap (λ x. laid m' a' b' x d) s ∙ ap (λ x. laid m' a' b' c' x) t
+
+-- the layout of settings is that of their mask and values
+layout_chosen : (s : Settings) →
+    mask_of s
+    ∷ (field_bytes (then_some (masked (mask_of s) 0) (values_of s).batch)
+    ++ (field_bytes (then_some (masked (mask_of s) 1) (values_of s).nozzle)
+    ++ (field_bytes (then_some (masked (mask_of s) 2) (values_of s).plate) ++ field_bytes (then_some (masked (mask_of s) 3) (values_of s).profile))))
+    ≡ settings_layout s
+layout_chosen s =
+    ap (λ t. mask_of s ∷ (field_bytes t.batch ++ (field_bytes t.nozzle ++ (field_bytes t.plate ++ field_bytes t.profile)))) (chosen_back s)
+    ∙ ap (λ l. mask_of s ∷ (field_bytes s.batch ++ (field_bytes s.nozzle ++ (field_bytes s.plate ++ l)))) (sym (append-nil (field_bytes s.profile)))
+
+-- mask and fields appended one after the other, with the lengths so far
+pub settings_appended : (s : Settings) (m a b c d : ℕ) (e₀ e₁ e₂ e₃ e₄ e₅ : List ℕ) (n₀ n₁ n₂ n₃ n₄ n₅ : ℕ) →
+    m ≡ mask_of s → a ≡ (values_of s).batch → b ≡ (values_of s).nozzle → c ≡ (values_of s).plate → d ≡ (values_of s).profile →
+    e₁ ≡ e₀ ++ (m ∷ []) → e₂ ≡ e₁ ++ field_bytes (then_some (masked m 0) a) → e₃ ≡ e₂ ++ field_bytes (then_some (masked m 1) b) → e₄ ≡ e₃ ++ field_bytes (then_some (masked m 2) c) → e₅ ≡ e₄ ++ field_bytes (then_some (masked m 3) d) →
+    n₁ ≡ n₀ + 1 → n₂ ≡ n₁ + width (masked m 0) → n₃ ≡ n₂ + width (masked m 1) → n₄ ≡ n₃ + width (masked m 2) → n₅ ≡ n₄ + width (masked m 3) →
+    (e₅ ≡ e₀ ++ settings_layout s) × (n₅ ≡ n₀ + length (settings_layout s))
+settings_appended s m a b c d e₀ e₁ e₂ e₃ e₄ e₅ n₀ n₁ n₂ n₃ n₄ n₅ mask f₀ f₁ f₂ f₃ i₁ i₂ i₃ i₄ i₅ l₁ l₂ l₃ l₄ l₅ =
+    let l = length_layout s in
+    let w : widths_of m ≡ widths_of (mask_of s) = ap widths_of mask in (
+      appended_five e₀ e₁ e₂ e₃ e₄ e₅ m _ _ _ _ i₁ i₂ i₃ i₄ i₅ ∙ ap (λ x. e₀ ++ x) (same_laid m a b c d _ _ _ _ _ mask f₀ f₁ f₂ f₃ ∙ layout_chosen s),
+      lengths n₀ n₁ n₂ n₃ n₄ n₅ (width (masked m 0)) (width (masked m 1)) (width (masked m 2)) (width (masked m 3)) (widths_of (mask_of s)) (length (settings_layout s)) w l l₁ l₂ l₃ l₄ l₅,
+    )
+  where
+    lengths : (n₀ n₁ n₂ n₃ n₄ n₅ a b c d w l : ℕ) → a + (b + (c + d)) ≡ w → l ≡ 1 + w → n₁ ≡ n₀ + 1 → n₂ ≡ n₁ + a → n₃ ≡ n₂ + b → n₄ ≡ n₃ + c → n₅ ≡ n₄ + d → n₅ ≡ n₀ + l
+    lengths n₀ n₁ n₂ n₃ n₄ n₅ a b c d w l p q r s t u v = omega arith

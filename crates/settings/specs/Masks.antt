@@ -1,5 +1,5 @@
 -- Settings as a mask, in which 2 ^ i stands for field i, and values.
-use Rattle.std.specs.Prelude.{ℕ, ◌+◌, ◌*◌, ◌/◌, ◌%◌, ◌^◌, ◌<◌, Bool, true, false, ◌&&◌, ◌||◌, ◌==◌, nat_lt, if◌then◌else◌, Some, None, Option, is_some, IfSome}
+use Rattle.std.specs.Prelude.{◌≡◌, ℕ, ◌+◌, ◌*◌, ◌/◌, ◌%◌, ◌^◌, ◌<◌, Bool, true, false, cond, ◌&&◌, ◌||◌, ◌==◌, nat_lt, if◌then◌else◌, Some, None, Option, is_some, IfSome}
 use Rattle.std.specs.Int.{from_bool}
 use Rattle.std.specs.Bool.{then_some}
 use Rattle.settings.specs.Overwriting.{all_zero, overwritten}
@@ -9,6 +9,10 @@ use Rattle.settings.specs.declared.Settings.{Settings}
 -- whether a mask has field i
 abbrev pub masked : ℕ → ℕ → Bool
 masked mask i = mask / 2 ^ i % 2 == 1
+
+-- what a mask makes of field i: the new value where it has the field, and else the old
+abbrev pub over : ℕ → ℕ → ℕ → ℕ → ℕ
+over mask i new old = cond (masked mask i) new old
 
 -- 1 for a field that has a new value
 abbrev pub flag : Option ℕ → ℕ
@@ -47,6 +51,10 @@ chosen mask values = record {
 -- a mask 00 to 0f, and values that are 0 where it has no field
 abbrev pub proper : ℕ → Setup → Bool
 proper mask values = nat_lt mask 16 && bare (masked mask 0) values.batch && bare (masked mask 1) values.nozzle && bare (masked mask 2) values.plate && bare (masked mask 3) values.profile
+
+-- `proper` as a proposition: what all settings keep
+abbrev pub Proper : ℕ → Setup → Type 0
+Proper mask values = (mask < 16) × (masked mask 0 ≡ false → values.batch ≡ 0) × (masked mask 1 ≡ false → values.nozzle ≡ 0) × (masked mask 2 ≡ false → values.plate ≡ 0) × (masked mask 3 ≡ false → values.profile ≡ 0)
 
 -- the settings of a mask and values, or none where these are not proper
 abbrev pub settings_of : ℕ → Setup → Option Settings

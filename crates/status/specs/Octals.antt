@@ -1,8 +1,8 @@
 -- The words of transitions read back as them, and only they do.
-use Rattle.std.specs.Prelude.{◌≡◌, ℕ, zero, suc, ◌+◌, ◌*◌, ◌/◌, ◌%◌, ◌^◌, ◌<◌, ◌≤◌, List, [], ◌∷◌, map, length, Some, None, ◌==◌, nat_lt, refl}
-use Rattle.std.proofs.Common.{sym, ap, ap₂, ◌∙◌, arith, pow-suc, eq-eqb, lt→ltb, ltb→lt, eqb→eq}
+use Rattle.std.specs.Prelude.{◌≡◌, ℕ, zero, suc, ◌+◌, ◌-◌, ◌*◌, ◌/◌, ◌%◌, ◌^◌, ◌<◌, ◌≤◌, List, [], ◌∷◌, ◌++◌, map, length, take, drop, Some, None, ◌==◌, nat_lt, slice_set, refl}
+use Rattle.std.proofs.Common.{sym, ap, ap₂, ◌∙◌, append_assoc, append-nil, arith, pow-suc, eq-eqb, lt→ltb, ltb→lt, eqb→eq, length-drop}
 use Rattle.std.proofs.Math.Nat.{one-le-pow}
-use Rattle.std.proofs.lemmas.List.{length-map}
+use Rattle.std.proofs.lemmas.List.{take_all, take_more_set, length-map}
 use Rattle.std.specs.List.{AllByRecursion}
 use Rattle.words.specs.declared.EffectWords.{EffectWords}
 use Rattle.words.proofs.Giving.{given_passed, given_some, some_same, none_where, same_effect_words}
@@ -37,6 +37,10 @@ entries_lt [] k few = one-le-pow k 8 (omega arith)
 entries_lt (s ∷ ss) zero few = absurd (omega arith)
 entries_lt (s ∷ ss) (suc k) few = omega (arith, entries_lt ss k (omega arith), code_small s, pow-suc 8 k)
 
+-- what the entries from i on write
+pub octal_rest : (ss : List Status) (i : ℕ) → length ss ≡ 8 → octal (map code_of (drop i ss)) < 8 ^ 8
+octal_rest ss i eight = entries_lt (drop i ss) 8 (omega (arith, length-drop i ss))
+
 pub transitions_is : (w : EffectWords) (f : Transitions) → w.first < 8 ^ 8 → w.second ≡ 0 → f.entries ≡ entries_read w → Some f ≡ transitions_read w
 transitions_is w f small none entries =
     sym (given_passed (nat_lt w.first (8 ^ 8)) _ (lt→ltb w.first (8 ^ 8) small) ∙ given_passed (w.second == 0) _ (rw (eq-eqb w.second 0 none) tt) ∙ ap Some (same_transitions _ f (sym entries)))
@@ -64,3 +68,17 @@ reads_none w never =
     (λ f is.
     let one = given_some (nat_lt w.first (8 ^ 8)) _ f is in
     let two = given_some (w.second == 0) _ f one.1 in never (ltb→lt w.first (8 ^ 8) one.0, eqb→eq w.second 0 two.0))
+
+-- one digit of what is left read into entry i
+pub digit_more : (xs want : List Status) (i rest : ℕ) → i < 8 → length xs ≡ 8 → take i xs ++ map status_of (digits (8 - i) rest) ≡ want → take (i + 1) (slice_set xs i (status_of (rest % 8))) ++ map status_of (digits (8 - (i + 1)) (rest / 8)) ≡ want
+digit_more xs want i rest small eight done =
+    let inside : i < length xs = omega arith in
+    let left : 8 - i ≡ suc (8 - (i + 1)) = omega arith in
+    let next = map status_of (digits (8 - (i + 1)) (rest / 8)) in
+    ap (λ t. t ++ next) (take_more_set xs i (status_of (rest % 8)) inside) ∙ append_assoc (take i xs) (status_of (rest % 8) ∷ []) next
+    ∙ ap (λ k. take i xs ++ map status_of (digits k rest)) (sym left) ∙ done
+
+-- all digits read
+pub digits_done : (xs want : List Status) (i rest : ℕ) → i ≡ 8 → length xs ≡ 8 → take i xs ++ map status_of (digits (8 - i) rest) ≡ want → xs ≡ want
+digits_done xs want i rest all eight done =
+    sym (ap (λ k. take k xs ++ map status_of (digits (8 - k) rest)) all ∙ append-nil (take 8 xs) ∙ take_all 8 xs (omega arith)) ∙ done
