@@ -8,7 +8,7 @@ ghost use Rattle.calls.specs.declared.refusal.Refusal.TheVariants.{Full, Store};
 ghost use Rattle.calls.specs.Verdict.{has, latest_belief};
 ghost use Rattle.law.specs.Runs.{Step};
 ghost use Rattle.tree.specs.Reading.{read_from};
-ghost use Rattle.ledger.specs.Shown.{shown};
+ghost use Rattle.ledger.specs.Shown.{shown, Stands};
 ghost use Rattle.ledger.specs.Changing.{Newest, Next};
 
 use crate::rows::{row_at, set_row};
@@ -20,6 +20,7 @@ use times::Time;
 impl<E: Effect, T: Time, S: Store> Ledger<E, T, S> {
     // The number of the latest belief. Where it is 1,023, every change is refused.
     pub(crate) fn newest(&self) -> u32
+        ensures stands { Stands E.Effect T.Time S.Store self.now }
         ensures number { result ≡ self.now.latest }
         ensures entry { (time : _) (effect : _) → 1023 ≤ result → Step (kinds E.Effect T.Time) (Enter time effect) (Err Full) (shown E.Effect T.Time S.Store self.now) (shown E.Effect T.Time S.Store self.now) }
         ensures withdrawal { (operation : ℕ) → 1023 ≤ result → Step (kinds E.Effect T.Time) (Withdraw operation) (Err Full) (shown E.Effect T.Time S.Store self.now) (shown E.Effect T.Time S.Store self.now) }
@@ -44,6 +45,7 @@ impl<E: Effect, T: Time, S: Store> Ledger<E, T, S> {
     // Claims the cells of a change that only the store can refuse.
     pub(crate) fn claim(&self, cells: u32) -> Result<(), Fault>
         requires { self.now.latest < 1023 }
+        ensures stands { Stands E.Effect T.Time S.Store self.now }
         ensures granted { OnOk result (claimed (S.Store.meaning self.now.store) cells ≡ Ok tt) }
         ensures entry { IfErr result (λ fault. (time : _) (effect : _) → cells ≡ 42 → Step (kinds E.Effect T.Time) (Enter time effect) (Err (Store fault)) (shown E.Effect T.Time S.Store self.now) (shown E.Effect T.Time S.Store self.now)) }
         ensures withdrawal { IfErr result (λ fault. (operation : ℕ) → has operation (latest_belief (shown E.Effect T.Time S.Store self.now).beliefs) ≡ true → cells ≡ 42 → Step (kinds E.Effect T.Time) (Withdraw operation) (Err (Store fault)) (shown E.Effect T.Time S.Store self.now) (shown E.Effect T.Time S.Store self.now)) }
@@ -56,6 +58,7 @@ impl<E: Effect, T: Time, S: Store> Ledger<E, T, S> {
         requires room { self.old.latest < 1023 }
         requires next { Next E.Effect T.Time S.Store self.old row.root row.entered }
         requires counted { row.count ≡ count (read_from E.Effect T.Time (S.Store.meaning self.old.store).cells row.root) }
+        ensures stands { Stands E.Effect T.Time S.Store self.new }
         ensures number { result ≡ self.old.latest + 1 }
         ensures beliefs { (shown E.Effect T.Time S.Store self.new).beliefs ≡ (shown E.Effect T.Time S.Store self.old).beliefs ++ (read_from E.Effect T.Time (S.Store.meaning self.old.store).cells row.root ∷ []) }
         ensures earlier { take (self.old.latest + 1) self.new.rows ≡ take (self.old.latest + 1) self.old.rows }

@@ -8,7 +8,7 @@ ghost use Rattle.calls.specs.Verdict.{told, latest_belief, claim_of};
 ghost use Rattle.law.specs.Runs.{Step};
 ghost use Rattle.questions.specs.Standing.{Standing};
 ghost use Rattle.tree.specs.Reading.{read_from};
-ghost use Rattle.ledger.specs.Shown.{shown};
+ghost use Rattle.ledger.specs.Shown.{shown, Stands};
 ghost use Rattle.ledger.specs.Changing.{Ready, Put};
 
 use crate::{Ledger, Row};
@@ -24,6 +24,7 @@ impl<E: Effect, T: Time, S: Store> Ledger<E, T, S> {
     // Puts the cells of an entry, which is ready for them, into the latest belief, whose row is given, and answers the root of the next.
     fn plant(&mut self, row: Row<T>, time: T, effect: E) -> Result<u32, Refusal>
         requires { Ready E.Effect T.Time S.Store self.old (Enter time effect) row }
+        ensures stands { Stands E.Effect T.Time S.Store self.new }
         ensures latest { self.new.latest ≡ self.old.latest }
         ensures rows { self.new.rows ≡ self.old.rows }
         ensures put { MatchResult result (λ new. Put E.Effect T.Time S.Store (shown E.Effect T.Time S.Store self.old) (Enter time effect) self.new new (Some time)) (λ _. ⊥) }
@@ -39,6 +40,7 @@ impl<E: Effect, T: Time, S: Store> Ledger<E, T, S> {
 
     // Enters an effect at a time, late or not.
     pub fn enter(&mut self, time: T, effect: E) -> Result<(u32, u32), Refusal>
+        ensures stands { Stands E.Effect T.Time S.Store self.new }
         ensures step { Step (kinds E.Effect T.Time) (Enter time effect) (told Changed result) (shown E.Effect T.Time S.Store self.old) (shown E.Effect T.Time S.Store self.new) }
         ensures earlier { take (self.old.latest + 1) self.new.rows ≡ take (self.old.latest + 1) self.old.rows }
         ensures refused { is_err result ≡ true → self.new ≡ self.old }

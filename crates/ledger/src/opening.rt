@@ -1,7 +1,7 @@
 // Opening a ledger over a store, and taking it apart.
 ghost use Rattle.std.specs.Prelude.{◌≡◌};
 ghost use Rattle.law.specs.Runs.{opened};
-ghost use Rattle.ledger.specs.Shown.{shown};
+ghost use Rattle.ledger.specs.Shown.{shown, Stands};
 
 use crate::{Ledger, Row};
 use effects::Effect;
@@ -12,6 +12,7 @@ use times::Time;
 impl<E: Effect, T: Time, S: Store> Ledger<E, T, S> {
     // A ledger over a store, with belief 0 alone. The store may have cells.
     pub fn open(store: S) -> Self
+        ensures stands { Stands E.Effect T.Time S.Store result }
         ensures shown { shown E.Effect T.Time S.Store result ≡ opened (S.Store.meaning store) }
         ensures store { result.store ≡ store }
     {

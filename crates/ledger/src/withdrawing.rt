@@ -10,7 +10,7 @@ ghost use Rattle.law.specs.Runs.{Step};
 ghost use Rattle.order.specs.Order.{Timed};
 ghost use Rattle.questions.specs.Standing.{Standing};
 ghost use Rattle.tree.specs.Reading.{read_from};
-ghost use Rattle.ledger.specs.Shown.{shown};
+ghost use Rattle.ledger.specs.Shown.{shown, Stands};
 ghost use Rattle.ledger.specs.Changing.{Ready, Put};
 
 use crate::rows::row_at;
@@ -29,6 +29,7 @@ impl<E: Effect, T: Time, S: Store> Ledger<E, T, S> {
         requires ready { Ready E.Effect T.Time S.Store self.old (Withdraw operation) row }
         requires there { has operation (latest_belief (shown E.Effect T.Time S.Store self.old).beliefs) ≡ true }
         requires timed { Timed operation time (latest_belief (shown E.Effect T.Time S.Store self.old).beliefs) }
+        ensures stands { Stands E.Effect T.Time S.Store self.new }
         ensures latest { self.new.latest ≡ self.old.latest }
         ensures rows { self.new.rows ≡ self.old.rows }
         ensures put { MatchResult result (λ new. Put E.Effect T.Time S.Store (shown E.Effect T.Time S.Store self.old) (Withdraw operation) self.new new None) (λ _. ⊥) }
@@ -44,6 +45,7 @@ impl<E: Effect, T: Time, S: Store> Ledger<E, T, S> {
     // The time of an operation of the latest belief, if it is there.
     fn sought(&mut self, operation: u32) -> Result<Option<T>, Refusal>
         requires { self.old.latest < 1023 }
+        ensures stands { Stands E.Effect T.Time S.Store self.new }
         ensures rows { self.new.rows ≡ self.old.rows }
         ensures latest { self.new.latest ≡ self.old.latest }
         ensures buffer { S.Store.buffer self.new.store ≡ S.Store.buffer self.old.store }
@@ -67,6 +69,7 @@ impl<E: Effect, T: Time, S: Store> Ledger<E, T, S> {
         requires room { self.old.latest < 1023 }
         requires there { has operation (latest_belief (shown E.Effect T.Time S.Store self.old).beliefs) ≡ true }
         requires timed { Timed operation time (latest_belief (shown E.Effect T.Time S.Store self.old).beliefs) }
+        ensures stands { Stands E.Effect T.Time S.Store self.new }
         ensures step { Step (kinds E.Effect T.Time) (Withdraw operation) (told Changed result) (shown E.Effect T.Time S.Store self.old) (shown E.Effect T.Time S.Store self.new) }
         ensures earlier { take (self.old.latest + 1) self.new.rows ≡ take (self.old.latest + 1) self.old.rows }
         ensures refused { is_err result ≡ true → self.new ≡ self.old }
@@ -86,6 +89,7 @@ impl<E: Effect, T: Time, S: Store> Ledger<E, T, S> {
 
     // Withdraws an operation of the latest belief.
     pub fn withdraw(&mut self, operation: u32) -> Result<(u32, u32), Refusal>
+        ensures stands { Stands E.Effect T.Time S.Store self.new }
         ensures step { Step (kinds E.Effect T.Time) (Withdraw operation) (told Changed result) (shown E.Effect T.Time S.Store self.old) (shown E.Effect T.Time S.Store self.new) }
         ensures earlier { take (self.old.latest + 1) self.new.rows ≡ take (self.old.latest + 1) self.old.rows }
         ensures rows { is_err result ≡ true → self.new.rows ≡ self.old.rows }

@@ -6,7 +6,7 @@ ghost use Rattle.reference.specs.Beliefs.{kinds};
 ghost use Rattle.law.specs.Runs.{Step, Run};
 ghost use Rattle.law.specs.Law.{Promise, Continues};
 ghost use Rattle.law.specs.Theorems.{Throughout, Seconds};
-ghost use Rattle.ledger.specs.Shown.{shown};
+ghost use Rattle.ledger.specs.Shown.{shown, Stands};
 
 use calls::{Answer, Call, Refusal};
 use effects::Effect;
@@ -20,6 +20,7 @@ fn dispatch<E: Effect, T: Time, S: Store>(
     ledger: &mut Ledger<E, T, S>,
     call: Call<E, T>,
 ) -> Result<Answer<E::State, T>, Refusal>
+    ensures stands { Stands E.Effect T.Time S.Store ledger.new }
     ensures step { Step (kinds E.Effect T.Time) call result (shown E.Effect T.Time S.Store ledger.old) (shown E.Effect T.Time S.Store ledger.new) }
     ensures rows { is_err result ≡ true → ledger.new.rows ≡ ledger.old.rows }
     ensures buffer { is_err result ≡ true → S.Store.buffer ledger.new.store ≡ S.Store.buffer ledger.old.store }
@@ -38,6 +39,7 @@ pub fn carry_out<E: Effect, T: Time, S: Store>(
     ledger: &mut Ledger<E, T, S>,
     call: Call<E, T>,
 ) -> Result<Answer<E::State, T>, Refusal>
+    ensures stands { Stands E.Effect T.Time S.Store ledger.new }
     ensures step { Step (kinds E.Effect T.Time) call result (shown E.Effect T.Time S.Store ledger.old) (shown E.Effect T.Time S.Store ledger.new) }
     ensures lawful { Continues (kinds E.Effect T.Time) (shown E.Effect T.Time S.Store ledger.old) (call ∷ []) (result ∷ []) (shown E.Effect T.Time S.Store ledger.new) }
     ensures rows { is_err result ≡ true → ledger.new.rows ≡ ledger.old.rows }
@@ -54,7 +56,8 @@ fn carry_out_all<E: Effect, T: Time, S: Store>(
 )
     requires empty { (answers.old.items ≡ []) × (vec_len answers.old ≡ 0) }
     requires room { length calls.now ≤ vec_capacity answers.old }
-    ensures { Run (kinds E.Effect T.Time) calls.now answers.new.items (shown E.Effect T.Time S.Store ledger.old) (shown E.Effect T.Time S.Store ledger.new) }
+    ensures stands { Stands E.Effect T.Time S.Store ledger.old → Stands E.Effect T.Time S.Store ledger.new }
+    ensures run { Run (kinds E.Effect T.Time) calls.now answers.new.items (shown E.Effect T.Time S.Store ledger.old) (shown E.Effect T.Time S.Store ledger.new) }
 {
     for call in calls {
         let answer = carry_out(ledger, *call);
@@ -73,6 +76,7 @@ fn run_into<E: Effect, T: Time, S: Store>(
     ensures promise { Promise (kinds E.Effect T.Time) (S.Store.meaning store) calls.now result.1.items (shown E.Effect T.Time S.Store result.0) }
     ensures throughout { Throughout (kinds E.Effect T.Time) (S.Store.meaning store) calls.now result.1.items (shown E.Effect T.Time S.Store result.0) }
     ensures seconds { Seconds (kinds E.Effect T.Time) (S.Store.meaning store) calls.now result.1.items (shown E.Effect T.Time S.Store result.0) }
+    ensures stands { Stands E.Effect T.Time S.Store result.0 }
 {
     let mut ledger = Ledger::<E, T, S>::open(store);
     carry_out_all(&mut ledger, calls, &mut answers);
@@ -90,6 +94,7 @@ pub fn run<E: Effect, T: Time, S: Store + Drop>(
     ensures promise { IfOk result (λ x. Promise (kinds E.Effect T.Time) (S.Store.meaning store) calls.now x.1.items (shown E.Effect T.Time S.Store x.0)) }
     ensures throughout { IfOk result (λ x. Throughout (kinds E.Effect T.Time) (S.Store.meaning store) calls.now x.1.items (shown E.Effect T.Time S.Store x.0)) }
     ensures seconds { IfOk result (λ x. Seconds (kinds E.Effect T.Time) (S.Store.meaning store) calls.now x.1.items (shown E.Effect T.Time S.Store x.0)) }
+    ensures stands { IfOk result (λ x. Stands E.Effect T.Time S.Store x.0) }
 {
     let answers = Vec::with_capacity(heap, calls.len())?;
     Ok(run_into(store, calls, answers))

@@ -15,7 +15,7 @@ use Rattle.law.specs.Runs.{View, Run, opened}
 use Rattle.law.proofs.Keeping.{promised}
 use Rattle.law.proofs.Sorting.{TimeLaws}
 use Rattle.ledger.specs.Accounts.{Account}
-use Rattle.ledger.specs.Shown.{shown}
+use Rattle.ledger.specs.Shown.{shown, Stands}
 use Rattle.session.specs.Saying.{calls_in, output}
 use Rattle.session.specs.Serving.{Served}
 use Rattle.session.specs.Records.{Adds, limits, stacked, Kept}
@@ -23,8 +23,8 @@ use Rattle.session.specs.Records.{Adds, limits, stacked, Kept}
 pub kept_from :
     {E P St T S : Type 0} (p : payload.Ghosts E P St) (e : effect.Ghosts E St) (t : time.Ghosts T) (s : store.Ghosts S) → TimeLaws t.upto
     → (m : Meaning) (lines : List Line) (before after : List ℕ) (v : View E T) (ledger : Account T (Cache (Quota S) (limits s)))
-    → v ≡ opened m → Served p e t lines before after v (shown e t (stacked s) ledger) → Adds (Kept s p e t m lines ledger) before after
-kept_from p e t s laws m lines before after v ledger start served =
+    → v ≡ opened m → Stands e t (stacked s) ledger → Served p e t lines before after v (shown e t (stacked s) ledger) → Adds (Kept s p e t m lines ledger) before after
+kept_from p e t s laws m lines before after v ledger start stands served =
     let w = shown e t (stacked s) ledger in
     let calls = calls_in p.entered (forms p t) lines in
     record {
@@ -32,6 +32,7 @@ kept_from p e t s laws m lines before after v ledger start served =
       written = served.written;
       holds = record {
         replies = served.replies;
+        stands = stands;
         promise = promised (kinds e t) laws (subst (λ u. Run (kinds e t) calls served.replies u w) start served.run);
         written = refl;
       };

@@ -29,7 +29,7 @@ use Rattle.answers.specs.Lines as answers
 use Rattle.law.specs.Runs.{Reply}
 use Rattle.law.specs.Law.{Promise}
 use Rattle.ledger.specs.Accounts.{Account}
-use Rattle.ledger.specs.Shown.{shown}
+use Rattle.ledger.specs.Shown.{shown, Stands}
 use Rattle.counter.specs.declared.Counter as counter
 use Rattle.counter.specs.declared.Level.{Level}
 use Rattle.settings.specs.declared.Setup.{Setup}
@@ -71,6 +71,7 @@ module _ {S : Type 0} (s : store.Ghosts S) where
   -- of the ledger, which keeps the promise, whole, and each line is answered in order.
   pub record Kept {E P St T : Type 0} (p : payload.Ghosts E P St) (e : effect.Ghosts E St) (t : time.Ghosts T) (m : Meaning) (lines : List Line) (ledger : Account T (Cache (Quota S) limits)) (out : List ℕ) : Type 0 where
     pub replies : List (Reply St T)
+    pub stands : Stands e t stacked ledger
     pub promise : Promise (kinds e t) m (calls_in p.entered (forms p t) lines) replies (shown e t stacked ledger)
     pub written : out ≡ output p.entered (forms p t) (answers.shown e t) lines replies
 

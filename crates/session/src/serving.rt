@@ -3,7 +3,7 @@ ghost use Rattle.std.specs.Prelude.{◌≡◌, ◌+◌, ◌*◌, ◌≤◌, true
 ghost use Rattle.text.specs.Seen.{held, unread};
 ghost use Rattle.commands.specs.Frames.{forms, command};
 ghost use Rattle.law.specs.Runs.{opened};
-ghost use Rattle.ledger.specs.Shown.{shown};
+ghost use Rattle.ledger.specs.Shown.{shown, Stands};
 ghost use Rattle.session.specs.Saying.{bytes_of, written, said, asked, framed};
 ghost use Rattle.session.specs.Serving.{Carried, Hears, Served};
 
@@ -23,7 +23,8 @@ use times::Time;
 impl<E: Payload, T: Time, S: Store> Session<E, T, S> {
     // A record over a store, open and with nothing entered.
     pub fn open(store: S) -> Self
-        ensures { shown E.Effect T.Time S.Store result.ledger ≡ opened (S.Store.meaning store) }
+        ensures shown { shown E.Effect T.Time S.Store result.ledger ≡ opened (S.Store.meaning store) }
+        ensures stands { Stands E.Effect T.Time S.Store result.ledger }
     {
         Session {
             ledger: Ledger::open(store),
@@ -41,6 +42,7 @@ impl<E: Payload, T: Time, S: Store> Session<E, T, S> {
     // Carries out a call under the code of its frame, a byte as the answer has it, and answers the line of its reply. That a
     // line is short is said of each answer: it is true of what was answered, and not of every line.
     fn call(&mut self, code: u8, call: Call<E, T>) -> Line
+        ensures stands { Stands E.Effect T.Time S.Store self.new.ledger }
         ensures carried { Carried E.Effect T.Time S.Store code call (Some result) self.old.ledger self.new.ledger }
         ensures short { length (written (Some result)) ≤ 27 }
     {
@@ -50,6 +52,7 @@ impl<E: Payload, T: Time, S: Store> Session<E, T, S> {
 
     // Does what a command asks for.
     fn obey(&mut self, command: Command<E::Form, T>) -> Line
+        ensures stands { Stands E.Effect T.Time S.Store self.old.ledger → Stands E.Effect T.Time S.Store self.new.ledger }
         ensures hears { Hears E.Effect T.Time S.Store (asked E.Payload.entered command) (Some result) self.old.ledger self.new.ledger }
         ensures short { length (written (Some result)) ≤ 27 }
     {
@@ -90,6 +93,7 @@ impl<E: Payload, T: Time, S: Store> Session<E, T, S> {
 
     // Answers a frame.
     fn answer_frame(&mut self, frame: &[u8]) -> Line
+        ensures stands { Stands E.Effect T.Time S.Store self.old.ledger → Stands E.Effect T.Time S.Store self.new.ledger }
         ensures hears { Hears E.Effect T.Time S.Store (framed E.Payload.entered (command (forms E.Payload.own T.Time) true frame.now)) (Some result) self.old.ledger self.new.ledger }
         ensures short { length (written (Some result)) ≤ 9 * (length frame.now + 1) }
     {
@@ -102,6 +106,7 @@ impl<E: Payload, T: Time, S: Store> Session<E, T, S> {
     // Answers a line of the input: a remark is not answered and changes nothing, and a frame that is refused leaves the
     // ledger and its store as they were.
     pub fn answer(&mut self, item: Item) -> Option<Line>
+        ensures stands { Stands E.Effect T.Time S.Store self.old.ledger → Stands E.Effect T.Time S.Store self.new.ledger }
         ensures hears { Hears E.Effect T.Time S.Store (said E.Payload.entered (forms E.Payload.own T.Time) (held item.entry)) result self.old.ledger self.new.ledger }
         ensures short { length (written result) ≤ 9 * (length (bytes_of (held item.entry)) + 1) }
     {
@@ -113,7 +118,8 @@ impl<E: Payload, T: Time, S: Store> Session<E, T, S> {
 
     // Answers all lines that are left.
     pub(crate) fn answer_all(&mut self, talk: &mut Talk)
-        ensures { Served E.Payload.own E.Effect T.Time (unread talk.old.reader) talk.old.out.items talk.new.out.items (shown E.Effect T.Time S.Store self.old.ledger) (shown E.Effect T.Time S.Store self.new.ledger) }
+        ensures stands { Stands E.Effect T.Time S.Store self.old.ledger → Stands E.Effect T.Time S.Store self.new.ledger }
+        ensures served { Served E.Payload.own E.Effect T.Time (unread talk.old.reader) talk.old.out.items talk.new.out.items (shown E.Effect T.Time S.Store self.old.ledger) (shown E.Effect T.Time S.Store self.new.ledger) }
     {
         while let Some(item) = talk.next_item() {
             talk.write(self.answer(item));

@@ -10,6 +10,7 @@ laws g = record { total = g.met.T.Time.total; transitive = g.met.T.Time.transiti
 
 pub returns : goal.returns
 returns g c = record {
+  stands = c.dispatch.ensures.stands;
   step = c.dispatch.ensures.step;
   lawful = one_more (kinds g.E.Effect g.T.Time) (laws g) c.args.call c.dispatch.result (shown g.E.Effect g.T.Time g.S.Store c.args.ledger.now) (shown g.E.Effect g.T.Time g.S.Store c.dispatch.new.ledger) c.dispatch.ensures.step;
   rows = c.dispatch.ensures.rows;

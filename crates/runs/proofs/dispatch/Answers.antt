@@ -13,6 +13,7 @@ returns-in_err-enter-in-Enter g c =
     let p = err_from_is_err_and c.from_residual.result c.from_residual.ensures.1 in
     let stopped = c.in_err-enter-in-Enter.ensures in
     record {
+      stands = stopped.stands;
       step = subst (λ r. Step k c.args.call r v w) (sym (p.1 ∙ ap (λ y. Err y) p.2)) (subst (λ q. Step k q (Err c.in_err-enter-in-Enter.field-0.0) v w) (sym c.in-Enter.is) stopped.step);
       rows = λ _. ap (λ l. l.rows) (stopped.refused refl);
       buffer = λ _. ap (λ l. g.S.Store.buffer l.store) (stopped.refused refl);
@@ -26,6 +27,7 @@ returns-in_err-withdraw-in-Withdraw g c =
     let p = err_from_is_err_and c.from_residual-in_err-withdraw-in-Withdraw.result c.from_residual-in_err-withdraw-in-Withdraw.ensures.1 in
     let stopped = c.in_err-withdraw-in-Withdraw.ensures in
     record {
+      stands = stopped.stands;
       step = subst (λ r. Step k c.args.call r v w) (sym (p.1 ∙ ap (λ y. Err y) p.2)) (subst (λ q. Step k q (Err c.in_err-withdraw-in-Withdraw.field-0.0) v w) (sym c.in-Withdraw.is) stopped.step);
       rows = λ _. stopped.rows refl;
       buffer = λ _. stopped.buffer refl;

@@ -19,5 +19,5 @@ returns g c =
     let calls = c.args.calls.now in
     let answers = vec_items c.carry_out_all.new.answers in
     let v = shown g.E.Effect g.T.Time g.S.Store c.carry_out_all.new.ledger in
-    let whole : Run k calls answers (opened m) v = subst (λ u. Run k calls answers u v) c.open-ledger.ensures.shown c.carry_out_all.ensures in
-    record { promise = promised k (laws g) whole; throughout = throughout k (laws g) whole; seconds = seconds k (laws g) m calls answers v whole }
+    let whole : Run k calls answers (opened m) v = subst (λ u. Run k calls answers u v) c.open-ledger.ensures.shown c.carry_out_all.ensures.run in
+    record { promise = promised k (laws g) whole; throughout = throughout k (laws g) whole; seconds = seconds k (laws g) m calls answers v whole; stands = c.carry_out_all.ensures.stands c.open-ledger.ensures.stands }

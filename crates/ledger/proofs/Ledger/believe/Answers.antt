@@ -9,6 +9,13 @@ invariant_of-self g c =
     let counted = rw (← c.self.view_is) at c.requires.counted in
     rw c.set_row.ensures (stands_row g.E.Effect g.T.Time g.S.Store _ c.args.row c.self.invariant room next counted)
 
+pub returns-clause-stands : goal.returns-clause-stands
+returns-clause-stands g c =
+    let room = rw (← c.self.view_is) at c.requires.room in
+    let next = rw (← c.self.view_is) at c.requires.next in
+    let counted = rw (← c.self.view_is) at c.requires.counted in
+    rw c.set_row.ensures (stands_row g.E.Effect g.T.Time g.S.Store _ c.args.row c.self.invariant room next counted)
+
 pub returns-clause-beliefs : goal.returns-clause-beliefs
 returns-clause-beliefs g c =
     let room = rw (← c.self.view_is) at c.requires.room in

@@ -24,6 +24,11 @@ returns-in_err-insert g c =
     let ready = rw (← c.self.view_is) at c.requires in
     entry_goes g.E.Effect g.T.Time g.S.Store g.met.E.Effect.back g.met.T.Time.back _ c.self.invariant c.args.row c.args.time c.args.effect ready c.insert.new.store c.insert.result c.insert.ensures.claimed c.in_err-insert.field-0.0 c.in_err-insert.was
 
+pub returns-clause-stands : goal.returns-clause-stands
+returns-clause-stands g c =
+    let ready = rw (← c.self.view_is) at c.requires in
+    entry_stays g.E.Effect g.T.Time g.S.Store g.met.E.Effect.back g.met.T.Time.back _ c.self.invariant c.args.row c.args.time c.args.effect ready c.insert.new.store c.insert.result c.insert.ensures.claimed
+
 pub returns-clause-put : goal.returns-clause-put
 returns-clause-put g c =
     let ready = rw (← c.self.view_is) at c.requires in

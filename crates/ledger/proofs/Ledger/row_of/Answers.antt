@@ -2,8 +2,8 @@
 use Rattle.ledger.proofs.Asked.{row_of, no_row}
 use Rattle.ledger.proofs.Ledger.row_of.Goals as goal
 
-pub returns-then-self-belief : goal.returns-then-self-belief
-returns-then-self-belief g c = rw (← c.self.view_is) (no_row g.E.Effect g.T.Time g.S.Store _ c.args.belief c.self.invariant c.if-self-belief.true)
+pub returns-then-self-belief-clause-row : goal.returns-then-self-belief-clause-row
+returns-then-self-belief-clause-row g c = rw (← c.self.view_is) (no_row g.E.Effect g.T.Time g.S.Store _ c.args.belief c.self.invariant c.if-self-belief.true)
 
-pub returns : goal.returns
-returns g c = rw (← c.self.view_is, c.row_at.ensures) (row_of g.E.Effect g.T.Time g.S.Store _ c.args.belief c.row_at.result c.self.invariant c.if-self-belief.false)
+pub returns-clause-row : goal.returns-clause-row
+returns-clause-row g c = rw (← c.self.view_is, c.row_at.ensures) (row_of g.E.Effect g.T.Time g.S.Store _ c.args.belief c.row_at.result c.self.invariant c.if-self-belief.false)

@@ -23,6 +23,9 @@ returns-in_default-clause-there g c =
 pub invariant_of-self-2 : goal.invariant_of-self-2
 invariant_of-self-2 g c = stands_over g.E.Effect g.T.Time g.S.Store _ c.find.new.store c.self.invariant c.find.ensures.same
 
+pub returns-clause-stands : goal.returns-clause-stands
+returns-clause-stands g c = stands_over g.E.Effect g.T.Time g.S.Store _ c.find.new.store c.self.invariant c.find.ensures.same
+
 pub returns-clause-there : goal.returns-clause-there
 returns-clause-there g c =
     let n = c.args.operation in

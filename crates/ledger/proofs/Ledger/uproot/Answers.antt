@@ -42,6 +42,13 @@ returns-in_default g c =
     let timed = rw (← c.self.view_is) at c.requires.timed in
     withdrawal_finds g.E.Effect g.T.Time g.S.Store g.met.E.Effect.back g.met.T.Time.back (laws g) _ c.self.invariant c.args.row c.args.operation c.args.time ready found timed c.remove.new.store c.remove.result c.remove.ensures.claimed c.in_ok-removed.removed c.in_ok-removed.was c.in_default.not-Some
 
+pub returns-clause-stands : goal.returns-clause-stands
+returns-clause-stands g c =
+    let ready = rw (← c.self.view_is) at c.requires.ready in
+    let found = rw (← c.self.view_is) at c.requires.there in
+    let timed = rw (← c.self.view_is) at c.requires.timed in
+    withdrawal_stays g.E.Effect g.T.Time g.S.Store g.met.E.Effect.back g.met.T.Time.back (laws g) _ c.self.invariant c.args.row c.args.operation c.args.time ready found timed c.remove.new.store c.remove.result c.remove.ensures.claimed
+
 pub returns-clause-put : goal.returns-clause-put
 returns-clause-put g c =
     let ready = rw (← c.self.view_is) at c.requires.ready in

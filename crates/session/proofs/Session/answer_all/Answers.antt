@@ -15,8 +15,11 @@ loop-item-preserved g c =
     let v = shown g.E.Effect g.T.Time g.S.Store c.args.self.now.ledger in
     let w = shown g.E.Effect g.T.Time g.S.Store c.answer.new.self.ledger in
     let grown = behind so_far (written c.answer.result) _ now_out c.write.ensures.items c.next_item.ensures.items in
+    let onward =
     subst (λ ls. Onward g.E.Payload g.E.Effect g.T.Time all ls before now_out v w) (sym c.write.ensures.left)
-    (onward_more g.E.Payload g.E.Effect g.T.Time g.S.Store all (unread c.loop-item.talk.reader) left c.in-Some.item c.answer.result before so_far now_out v c.loop-item.self.ledger c.answer.new.self.ledger c.in-Some.ensures.takes c.answer.ensures.hears grown c.loop-item.invariant)
+    (onward_more g.E.Payload g.E.Effect g.T.Time g.S.Store all (unread c.loop-item.talk.reader) left c.in-Some.item c.answer.result before so_far now_out v c.loop-item.self.ledger c.answer.new.self.ledger c.in-Some.ensures.takes c.answer.ensures.hears grown c.loop-item.invariant.0)
+    in
+    (onward, λ stands. c.answer.ensures.stands (c.loop-item.invariant.1 stands))
 
 pub loop-item-smaller : goal.loop-item-smaller
 loop-item-smaller g c =
@@ -24,8 +27,8 @@ loop-item-smaller g c =
     let found = took (unread c.loop-item.talk.reader) c.in-Some.item left c.in-Some.ensures.takes in
     omega (arith, ap length found.1, ap length c.write.ensures.left)
 
-pub returns : goal.returns
-returns g c =
+pub returns-clause-served : goal.returns-clause-served
+returns-clause-served g c =
     let left = unread c.loop-item.talk.reader in
     let told = c.in_default.ensures in
-    onward_end g.E.Payload g.E.Effect g.T.Time (unread c.args.talk.now.reader) left (vec_items c.args.talk.now.out) (vec_items c.loop-item.talk.out) (vec_items c.next_item.new.self.out) (shown g.E.Effect g.T.Time g.S.Store c.args.self.now.ledger) (shown g.E.Effect g.T.Time g.S.Store c.loop-item.self.ledger) (none_left left (unread c.next_item.new.self.reader) told.takes) told.items c.loop-item.invariant
+    onward_end g.E.Payload g.E.Effect g.T.Time (unread c.args.talk.now.reader) left (vec_items c.args.talk.now.out) (vec_items c.loop-item.talk.out) (vec_items c.next_item.new.self.out) (shown g.E.Effect g.T.Time g.S.Store c.args.self.now.ledger) (shown g.E.Effect g.T.Time g.S.Store c.loop-item.self.ledger) (none_left left (unread c.next_item.new.self.reader) told.takes) told.items c.loop-item.invariant.0

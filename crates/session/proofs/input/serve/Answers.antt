@@ -11,7 +11,7 @@ pub returns : goal.returns
 returns g c =
     let below = g.S.Store.meaning c.args.store in
     let start =
-    c.open-session.ensures
+    c.open-session.ensures.shown
     ∙ ap (λ m. opened m) (c.open.ensures.meaning ∙ c.open-limited.ensures.meaning ∙ ap (limited below) c.from.ensures)
     in
-    kept_from g.E.Payload g.E.Effect g.T.Time g.S.Store (record { total = g.met.T.Time.total; transitive = g.met.T.Time.transitive }) (limited below c.args.opening.quota) (unread c.args.talk.now.reader) (vec_items c.args.talk.now.out) (vec_items c.answer_all.new.talk.out) (shown g.E.Effect g.T.Time (stacked g.S.Store) c.open-session.result.ledger) c.answer_all.new.self.ledger start c.answer_all.ensures
+    kept_from g.E.Payload g.E.Effect g.T.Time g.S.Store (record { total = g.met.T.Time.total; transitive = g.met.T.Time.transitive }) (limited below c.args.opening.quota) (unread c.args.talk.now.reader) (vec_items c.args.talk.now.out) (vec_items c.answer_all.new.talk.out) (shown g.E.Effect g.T.Time (stacked g.S.Store) c.open-session.result.ledger) c.answer_all.new.self.ledger start (c.answer_all.ensures.stands c.open-session.ensures.stands) c.answer_all.ensures.served
