@@ -75,17 +75,22 @@ fn read_call<E: Effect, T: Time>(asked: CallNumbers) -> Option<Call<E, T>>
     }
 }
 
-// The calls before the first numbers that are no call's.
+// The calls before the first numbers that are no call's. Their memory is obtained once, before the first: a chain that is
+// collected does not know how many it gives, would obtain up to twice as much, and the archive would need `realloc`.
 fn read_calls<E: Effect, T: Time>(
     heap: Global,
     asked: &[CallNumbers],
 ) -> Result<Vec<Call<E, T>>, AllocError>
     ensures { IfOk result (λ calls. calls.items ≡ calls_in E.Effect T.Time asked.now) }
 {
-    asked
-        .iter()
-        .map_while(|numbers| read_call::<E, T>(*numbers))
-        .collect(heap)
+    let mut calls = Vec::with_capacity(heap, asked.len())?;
+    for numbers in asked {
+        let Some(call) = read_call::<E, T>(*numbers) else {
+            break;
+        };
+        calls.push_reserved(call);
+    }
+    Ok(calls)
 }
 
 fn numbers_of<E: Effect, T: Time>(reply: Result<Answer<E::State, T>, Refusal>) -> ReplyNumbers
