@@ -56,7 +56,7 @@ module _ {E St T S : Type 0} (e : effect.Ghosts E St) (t : time.Ghosts T) (s : s
   newest_few = omega (arith, latest_row.counted, latest_row.few, ap count (newest_at empty))
 
 module _ {E St T S : Type 0} (e : effect.Ghosts E St) (t : time.Ghosts T) (s : store.Ghosts S) (effects_back : (f : E) → e.reads (e.words f) ≡ Some f) (times_back : (a : T) → t.reads (t.word a) ≡ Some a) (l : Account T S) (h : Stands e t s l) (room : l.latest < 1023) where
-  entry_put : (at : T) (effect : E) (root : ℕ) (n : S) (got : Result ℕ Fault) (new_root : ℕ) → claimed (s.meaning l.store) 42 ≡ Ok tt → read_from e t (s.meaning l.store).cells root ≡ latest_belief (shown e t s l).beliefs → Inserted e t (s.meaning l.store) (s.meaning n) root (record { number = l.latest + 1; time = at; effect = effect }) got 42 → got ≡ Ok new_root →
+  pub entry_put : (at : T) (effect : E) (root : ℕ) (n : S) (got : Result ℕ Fault) (new_root : ℕ) → claimed (s.meaning l.store) 42 ≡ Ok tt → read_from e t (s.meaning l.store).cells root ≡ latest_belief (shown e t s l).beliefs → Inserted e t (s.meaning l.store) (s.meaning n) root (record { number = l.latest + 1; time = at; effect = effect }) got 42 → got ≡ Ok new_root →
       Put e t s (shown e t s l) (Enter at effect) (over e t s l n) new_root (Some at) × (count (read_from e t (s.meaning n).cells new_root) ≡ count (latest_belief (shown e t s l).beliefs) + 1)
   entry_put at effect root n got new_root claim newest made is =
       let m = s.meaning l.store in

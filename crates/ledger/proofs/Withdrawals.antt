@@ -34,7 +34,7 @@ same_root a b h = cc
 
 module _ {E St T S : Type 0} (e : effect.Ghosts E St) (t : time.Ghosts T) (s : store.Ghosts S) (laws : TimeLaws t.upto) where
   -- what has the number and the time is there
-  there : (l : Account T S) (root n : ℕ) (at : T) → read_from e t (s.meaning l.store).cells root ≡ latest_belief (shown e t s l).beliefs → has n (latest_belief (shown e t s l).beliefs) ≡ true → Timed n at (latest_belief (shown e t s l).beliefs) → order.has (kinds e t) n at (read_from e t (s.meaning l.store).cells root) ≡ true
+  pub there : (l : Account T S) (root n : ℕ) (at : T) → read_from e t (s.meaning l.store).cells root ≡ latest_belief (shown e t s l).beliefs → has n (latest_belief (shown e t s l).beliefs) ≡ true → Timed n at (latest_belief (shown e t s l).beliefs) → order.has (kinds e t) n at (read_from e t (s.meaning l.store).cells root) ≡ true
   there l root n at newest found timed = ap (order.has (kinds e t) n at) newest ∙ has_timed (kinds e t) laws n at (latest_belief (shown e t s l).beliefs) timed ∙ found
 
 module _ {E St T S : Type 0} (e : effect.Ghosts E St) (t : time.Ghosts T) (s : store.Ghosts S) (effects_back : (f : E) → e.reads (e.words f) ≡ Some f) (times_back : (a : T) → t.reads (t.word a) ≡ Some a) (laws : TimeLaws t.upto) (l : Account T S) (h : Stands e t s l) (room : l.latest < 1023) where
@@ -42,7 +42,7 @@ module _ {E St T S : Type 0} (e : effect.Ghosts E St) (t : time.Ghosts T) (s : s
   newest_sorted : (root : ℕ) → Standing e t (s.meaning l.store).cells root → read_from e t (s.meaning l.store).cells root ≡ latest_belief (shown e t s l).beliefs → Sorted (kinds e t) (latest_belief (shown e t s l).beliefs)
   newest_sorted root tree newest = subst (Sorted (kinds e t)) (sym (standing_reads e t effects_back times_back (s.meaning l.store).cells root tree) ∙ newest) tree.sorted
 
-  withdrawal_put : (n : ℕ) (at : T) (root : ℕ) (after : S) (got : Result (Option ℕ) Fault) (new_root : ℕ) → has n (latest_belief (shown e t s l).beliefs) ≡ true → Timed n at (latest_belief (shown e t s l).beliefs) → claimed (s.meaning l.store) 42 ≡ Ok tt → Standing e t (s.meaning l.store).cells root → read_from e t (s.meaning l.store).cells root ≡ latest_belief (shown e t s l).beliefs → Removed e t (s.meaning l.store) (s.meaning after) root n at got 42 → got ≡ Ok (Some new_root) →
+  pub withdrawal_put : (n : ℕ) (at : T) (root : ℕ) (after : S) (got : Result (Option ℕ) Fault) (new_root : ℕ) → has n (latest_belief (shown e t s l).beliefs) ≡ true → Timed n at (latest_belief (shown e t s l).beliefs) → claimed (s.meaning l.store) 42 ≡ Ok tt → Standing e t (s.meaning l.store).cells root → read_from e t (s.meaning l.store).cells root ≡ latest_belief (shown e t s l).beliefs → Removed e t (s.meaning l.store) (s.meaning after) root n at got 42 → got ≡ Ok (Some new_root) →
       Put e t s (shown e t s l) (Withdraw n) (over e t s l after) new_root None × (count (read_from e t (s.meaning after).cells new_root) + 1 ≡ count (latest_belief (shown e t s l).beliefs))
   withdrawal_put n at root after got new_root found timed claim tree newest made is =
       let m = s.meaning l.store in

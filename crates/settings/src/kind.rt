@@ -1,8 +1,8 @@
 // What settings do to a set-up, and the words of both.
-ghost use Rattle.std.specs.Prelude.{◌≡◌, ℕ, refl};
+ghost use Rattle.std.specs.Prelude.{◌≡◌, ℕ, bit_or, refl};
 ghost use Rattle.std.proofs.Common.{ap};
 ghost use Rattle.words.specs.declared.EffectWords.{EffectWords};
-ghost use Rattle.settings.specs.Masks.{settings_of};
+ghost use Rattle.settings.specs.Masks.{mask_of, values_of, settings_of};
 ghost use Rattle.settings.specs.Overwriting.{all_zero, overwritten, no_settings, joined, or_in_turn};
 ghost use Rattle.settings.specs.Packing.{setup_word, settings_words, settings_read, setup_words};
 ghost use Rattle.settings.specs.Sames.{same_setup};
@@ -98,7 +98,12 @@ impl Effect for Settings {
     }
 
     // The second's value wins.
-    fn compose(self, second: Settings) -> Settings {
+    #[tactic(auto, using(crate::specs::Fields::mask_joined, crate::specs::Overwriting::or_in_turn, crate::specs::Sames::same_setup))]
+    fn compose(self, second: Settings) -> Settings
+        ensures value { result ≡ joined self second }
+        ensures mask { mask_of result ≡ bit_or (mask_of self) (mask_of second) }
+        ensures values { values_of result ≡ overwritten second (values_of self) }
+    {
         Settings {
             batch: second.batch.or(self.batch),
             nozzle: second.nozzle.or(self.nozzle),
