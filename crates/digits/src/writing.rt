@@ -15,39 +15,24 @@ fn digit(value: u8) -> u8
     }
 }
 
-// The line that bytes are written as.
+// The line that bytes are written as. An array of its own and not a line that grows by pushes: its length would be read and
+// written at each digit.
 fn line_of(bytes: &[u8]) -> Line
     requires { length bytes.now ≤ 32 }
     ensures digits { result ≡ encoded bytes.now }
     ensures back { decoded result ≡ Ok bytes.now }
     ensures short { length result ≤ 64 }
 {
-    let mut line = Line::new();
-    for byte in bytes {
-        line.push(digit(*byte / 16));
-        line.push(digit(*byte % 16));
+    let mut text = [b'\n'; 65];
+    for (i, byte) in bytes.iter().enumerate() {
+        text[2 * i] = digit(*byte / 16);
+        text[2 * i + 1] = digit(*byte % 16);
     }
-    line
+    let len = 2 * bytes.len();
+    Line { text, len }
 }
 
 impl Line {
-    // No digits yet.
-    fn new() -> Line
-        ensures { result ≡ [] }
-    {
-        let text = [b'\n'; 65];
-        Line { text, len: 0 }
-    }
-
-    // One digit more, where there is room.
-    fn push(&mut self, digit: u8)
-        requires { length self.old < 64 }
-        ensures { self.new ≡ self.old ++ digit ∷ [] }
-    {
-        self.text[self.len] = digit;
-        self.len += 1;
-    }
-
     // The digits, without the newline.
     pub fn digits(&self) -> &[u8]
         ensures digits { result.now ≡ self.now }

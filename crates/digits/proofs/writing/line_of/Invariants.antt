@@ -1,7 +1,8 @@
--- The digits so far, two of each byte, and those of the bytes that are left.
-use Rattle.std.proofs.Common.{◌≡◌, ◌*◌, ◌++◌, length, drop}
+-- The text holds the digits of the bytes so far.
+use Rattle.std.proofs.Common.{◌≡◌, take}
 use Rattle.digits.specs.Hex.{encoded}
+use Rattle.digits.specs.Held.{padded}
 use Rattle.digits.proofs.writing.line_of.Given as goal
 
-abbrev pub invariant-loop-byte : goal.invariant-loop-byte
-invariant-loop-byte l = (length l.line ≡ 2 * l.byte-index) × (l.line ++ encoded (drop l.byte-index l.bytes) ≡ encoded l.bytes)
+abbrev pub invariant-loop-i : goal.invariant-loop-i
+invariant-loop-i l = l.text ≡ padded 65 10 (encoded (take l.i l.bytes))
